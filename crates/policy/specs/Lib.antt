@@ -1,0 +1,4 @@
+pub mod Shapes
+pub mod Kinds
+pub mod Trees
+pub mod Meaning
