@@ -1,4 +1,9 @@
 pub mod Shapes
 pub mod Kinds
 pub mod Trees
+pub mod Parts
 pub mod Meaning
+pub mod Roots
+pub mod Finishing
+pub mod Building
+pub mod Walks

@@ -1,6 +1,8 @@
 //! Policies: their nodes, what they mean, and the evaluator.
 mod node;
+mod policy;
 
 pub use node::Kind;
 pub use node::KindPartialEq;
 pub use node::Node;
+pub use policy::Policy;
