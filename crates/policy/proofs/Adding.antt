@@ -1,4 +1,4 @@
--- One node more: what `add` took and made. Assumes nothing.
+-- One node more: what it takes and makes.
 use mathlib.Core.Path.{_≡_, refl, sym, ap, subst, _∙_}
 use mathlib.Core.Bool.{Bool, true, false, false≢true}
 use mathlib.Core.List.{List, [], _∷_, _++_}

@@ -1,4 +1,4 @@
--- Copies counted, send by send and port by port. Assumes nothing.
+-- Copies counted, send by send and port by port, are the copies of the policy's meaning.
 use mathlib.Core.Path.{_≡_, refl, sym, ap, subst, _∙_}
 use mathlib.Core.Bool.{Bool, true, false, cond, false≢true}
 use mathlib.Core.Logic.{_≢_}
@@ -9,6 +9,7 @@ use lib.Dec.{eqb}
 use lib.ListN.{length, getD, take, set, length-take}
 use Rattle.std.proofs.shelf.Lists.{take-more, getD-set-same, getD-set-other, take-all, map-append}
 use Rattle.std.proofs.shelf.Tests.{eqb-true, eqb-false}
+use Rattle.std.specs.Options.{isSome}
 use Rattle.std.specs.declared.option.Option.{Option}
 use Rattle.std.specs.declared.option.Option.the-variants.{Some, None}
 use Rattle.packet.specs.declared.packet.Packet.{Packet}
@@ -79,6 +80,10 @@ tally-more n xs i d h = ap (λ l. tally n (map written l)) (take-more xs i d h) 
 pub tally-short : (n : ℕ) (xs : List Ports) → tally n (map written xs) ≤ 8 * length xs
 tally-short n [] = omega arith
 tally-short n (p ∷ ps) = omega (arith, tally-short n ps, times-short n (written p), items-fit (p .list))
+
+pub only-some : (o : Option Untaken) → only-policy o ≡ true → isSome o ≡ true
+only-some None e = e
+only-some (Some ts) e = refl
 
 -- at the end one policy is left, the root
 pub root-stays : (o : Option Untaken) (e : only-policy o ≡ true) → trees o ≡ pol (root-of o e) ∷ []

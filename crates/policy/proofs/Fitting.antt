@@ -1,4 +1,4 @@
--- A node finds its parts exactly where the newest kinds are those that it wants. Assumes nothing.
+-- A node finds its parts exactly where the newest kinds are those that it wants.
 use mathlib.Core.Path.{_≡_, refl, sym, ap, subst, _∙_}
 use mathlib.Core.Bool.{Bool, true, false, false≢true, true≢false, cond}
 use mathlib.Core.Logic.{inl, inr, ⊎-elim}

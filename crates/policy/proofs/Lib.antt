@@ -4,3 +4,4 @@ pub mod Counting
 pub mod Fitting
 pub mod Numbering
 pub mod Rooting
+pub mod Standing

@@ -1,4 +1,4 @@
--- The numbers of the parts follow from the stack discipline. Assumes nothing.
+-- The numbers of the parts follow from the stack discipline.
 use mathlib.Core.Path.{_≡_, refl, sym, ap, subst, _∙_}
 use mathlib.Core.Bool.{Bool, true, false, false≢true, cond}
 use mathlib.Core.Logic.{⊎-elim}
