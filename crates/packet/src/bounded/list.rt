@@ -20,7 +20,7 @@ impl<T: Copy, const N: usize> Bounded<T, N> {
     pub fn len(&self) -> usize
         ensures { λ r. ⌜ r ≡ length (items-of (now (self .entry))) ⌝ }
     {
-        self.len
+        self.as_slice().len()
     }
 
     /// The items, the oldest first.

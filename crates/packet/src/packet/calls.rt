@@ -11,6 +11,12 @@ use crate::fault::Fault;
 use crate::fault::HostCause;
 use crate::field::Field;
 
+/// The dltyp of IP packets.
+const IP: u64 = 2048;
+
+/// The nwproto of TCP packets.
+const TCP: u64 = 6;
+
 /// Whether a number fits its width, and is 0 where it does not exist.
 fn allowed(number: u64, width: u8, exists: bool) -> bool
     requires { ⌜ width < 64 ⌝ }
@@ -24,8 +30,8 @@ fn rules_kept(given: &[u64; 8]) -> bool
     ensures { λ r. ⌜ r ≡ lawful (in-order (now (given .entry))) ⌝ }
 {
     let [dlsrc, dldst, dltyp, nwsrc, nwdst, nwproto, tpsrc, tpdst] = *given;
-    let network = dltyp == 2048;
-    let transport = network & (nwproto == 6);
+    let network = dltyp == IP;
+    let transport = network & (nwproto == TCP);
     allowed(dlsrc, 48, true)
         & allowed(dldst, 48, true)
         & allowed(dltyp, 16, true)
@@ -80,10 +86,12 @@ impl Packet {
     pub fn has(&self, field: Field) -> bool
         ensures { λ r. ⌜ r ≡ exists (number (now (self .entry))) field ⌝ }
     {
+        let network = u64::from(self.dltyp) == IP;
+        let transport = network & (u64::from(self.nwproto) == TCP);
         match field {
             Field::DlSrc | Field::DlDst | Field::DlTyp => true,
-            Field::NwSrc | Field::NwDst | Field::NwProto => self.dltyp == 2048,
-            Field::TpSrc | Field::TpDst => (self.dltyp == 2048) & (self.nwproto == 6),
+            Field::NwSrc | Field::NwDst | Field::NwProto => network,
+            Field::TpSrc | Field::TpDst => transport,
         }
     }
 }

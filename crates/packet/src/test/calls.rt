@@ -20,27 +20,6 @@ impl Test {
         })
     }
 
-    /// The field that the test looks at.
-    pub fn field(&self) -> Field
-        ensures { λ r. ⌜ r ≡ now (self .entry) .field ⌝ }
-    {
-        self.field
-    }
-
-    /// The value that it looks for.
-    pub fn value(&self) -> u64
-        ensures { λ r. ⌜ r ≡ now (self .entry) .value ⌝ }
-    {
-        self.value
-    }
-
-    /// How many first bits of the value count.
-    pub fn length(&self) -> u8
-        ensures { λ r. ⌜ r ≡ now (self .entry) .length ⌝ }
-    {
-        self.length
-    }
-
     /// Whether the packet has the field, with the value's first bits.
     pub fn holds(&self, packet: &Packet) -> bool
         ensures { λ r. ⌜ r ≡ true-of (now (self .entry)) (now (packet .entry)) ⌝ }
