@@ -34,7 +34,12 @@ pub fn check(heap: Global, sources: &Sources) -> Result<String, Failure> {
 }
 
 /// Where the policy sends a packet at a switch.
-pub fn ports(heap: Global, sources: &Sources, switch: u16, packet: &Packet) -> Result<String, Failure> {
+pub fn ports(
+    heap: Global,
+    sources: &Sources,
+    switch: u16,
+    packet: &Packet,
+) -> Result<String, Failure> {
     let policy = policy_of(heap, sources)?;
     let counts = evaluate(&policy, switch, packet);
     Ok(line_of(heap, &counts)?)

@@ -10,8 +10,14 @@ use text::number_of;
 #[derive(Drop)]
 pub enum Command {
     Help,
-    Check { files: Vec<String> },
-    Ports { switch: u16, packet: Packet, files: Vec<String> },
+    Check {
+        files: Vec<String>,
+    },
+    Ports {
+        switch: u16,
+        packet: Packet,
+        files: Vec<String>,
+    },
 }
 
 /// What the next word of the arguments is.
@@ -38,7 +44,12 @@ struct Options {
 
 impl Options {
     fn new(heap: Global) -> Options {
-        Options { due: Due::Any, switch: None, packet: None, files: Vec::new(heap) }
+        Options {
+            due: Due::Any,
+            switch: None,
+            packet: None,
+            files: Vec::new(heap),
+        }
     }
 
     fn add(&mut self, heap: Global, word: String) -> Result<(), Failure> {
@@ -91,7 +102,12 @@ impl Options {
 
     fn check(self, heap: Global) -> Result<Command, Failure> {
         self.finish(heap, "check")?;
-        let Options { due: _, switch, packet, files } = self;
+        let Options {
+            due: _,
+            switch,
+            packet,
+            files,
+        } = self;
         if switch.is_some() || packet.is_some() {
             return told(format!(heap, "yarnbrick: check takes files only"));
         }
@@ -100,23 +116,38 @@ impl Options {
 
     fn ports(self, heap: Global) -> Result<Command, Failure> {
         self.finish(heap, "ports")?;
-        let Options { due: _, switch, packet, files } = self;
+        let Options {
+            due: _,
+            switch,
+            packet,
+            files,
+        } = self;
         match packet {
-            Some(packet) => Ok(Command::Ports { switch: switch.unwrap_or(1), packet, files }),
+            Some(packet) => Ok(Command::Ports {
+                switch: switch.unwrap_or(1),
+                packet,
+                files,
+            }),
             None => told(format!(heap, "yarnbrick: ports wants --packet \"FIELD=V ..\"")),
         }
     }
 }
 
 fn no_option(heap: Global, word: String) -> Result<(), Failure> {
-    told(format!(heap, "yarnbrick: no option '{word}'; 'yarnbrick help' lists them"))
+    told(format!(
+        heap,
+        "yarnbrick: no option '{word}'; 'yarnbrick help' lists them"
+    ))
 }
 
 /// A switch number, 0 to 65535.
 fn switch_of(heap: Global, word: &str) -> Result<u16, Failure> {
     match number_of(word.as_bytes(), 65535) {
         Some(number) => Ok(number),
-        None => told(format!(heap, "yarnbrick: a switch number is 0 to 65535, not '{word}'")),
+        None => told(format!(
+            heap,
+            "yarnbrick: a switch number is 0 to 65535, not '{word}'"
+        )),
     }
 }
 
@@ -130,6 +161,9 @@ pub fn command_of(heap: Global, name: &str, words: Vec<String>) -> Result<Comman
         "check" => options.check(heap),
         "ports" => options.ports(heap),
         "help" => Ok(Command::Help),
-        _ => told(format!(heap, "yarnbrick: no command '{name}'; 'yarnbrick help' lists them")),
+        _ => told(format!(
+            heap,
+            "yarnbrick: no command '{name}'; 'yarnbrick help' lists them"
+        )),
     }
 }

@@ -17,7 +17,10 @@ impl Typed {
     /// One word FIELD=V more.
     fn add(&mut self, heap: Global, word: &str) -> Result<(), Failure> {
         let Some((name, value)) = word.split_once('=') else {
-            return told(format!(heap, "yarnbrick: a packet is given by words FIELD=V, not '{word}'"));
+            return told(format!(
+                heap,
+                "yarnbrick: a packet is given by words FIELD=V, not '{word}'"
+            ));
         };
         let Some(field) = field_of(name.as_bytes()) else {
             return told(format!(heap, "yarnbrick: a packet has no field '{name}'"));
@@ -37,7 +40,10 @@ impl Typed {
 
 /// The packet that words FIELD=V describe; fields left out are 0.
 pub fn packet_of(heap: Global, words: &str) -> Result<Packet, Failure> {
-    let mut typed = Typed { numbers: [0; 8], given: [false; 8] };
+    let mut typed = Typed {
+        numbers: [0; 8],
+        given: [false; 8],
+    };
     for word in words.split_whitespace() {
         typed.add(heap, word)?;
     }

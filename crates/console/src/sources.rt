@@ -35,7 +35,11 @@ impl Sources {
 
     /// One file more; where its last line has no end, it gets one.
     pub fn add(&mut self, name: String, content: &[u8]) -> Result<(), Failure> {
-        self.starts.push(Start { byte: self.text.len(), lines: self.lines })?;
+        self.starts
+            .push(Start {
+                byte: self.text.len(),
+                lines: self.lines,
+            })?;
         self.names.push(name)?;
         self.text.extend_from_slice(content)?;
         self.lines = self.lines.saturating_add(line_ends(content));
@@ -55,12 +59,24 @@ impl Sources {
     /// A fault in one line: a reader's with the file that it is in, and its place there.
     pub fn tell(&self, heap: Global, fault: &Fault) -> Result<String, AllocError> {
         match fault {
-            Fault::Reader { cause, place } => self.tell_in_file(heap, Fault::Reader { cause: *cause, place: self.in_file(place) }, place),
+            Fault::Reader { cause, place } => self.tell_in_file(
+                heap,
+                Fault::Reader {
+                    cause: *cause,
+                    place: self.in_file(place),
+                },
+                place,
+            ),
             _ => format!(heap, "{fault}"),
         }
     }
 
-    fn tell_in_file(&self, heap: Global, local: Fault, whole: &TextPlace) -> Result<String, AllocError> {
+    fn tell_in_file(
+        &self,
+        heap: Global,
+        local: Fault,
+        whole: &TextPlace,
+    ) -> Result<String, AllocError> {
         let name = match self.names.get(self.file_of(whole)) {
             Some(name) => name.as_str(),
             None => "no file",
@@ -70,7 +86,10 @@ impl Sources {
         }
         let line = whole.line;
         let byte = whole.byte;
-        format!(heap, "{local} ({name}; line {line}, byte {byte} of the whole text)")
+        format!(
+            heap,
+            "{local} ({name}; line {line}, byte {byte} of the whole text)"
+        )
     }
 
     /// The number of the file that a place is in: the last that begins there or before.

@@ -1,4 +1,5 @@
 pub mod Faults
+pub mod Telling
 pub mod Items
 pub mod PortLists
 pub mod Written

@@ -16,7 +16,9 @@ fn gather(rt: &LibcRuntime, files: Vec<String>) -> Result<Sources, Failure> {
     for name in files {
         match fs::read(rt, name.as_str()) {
             Ok(content) => sources.add(name, content.as_slice())?,
-            Err(error) => return Err(Failure::Told(format!(heap, "yarnbrick: cannot read {name}: {error}")?)),
+            Err(error) => return Err(Failure::Told(
+                format!(heap, "yarnbrick: cannot read {name}: {error}")?,
+            )),
         }
     }
     Ok(sources)
@@ -30,13 +32,19 @@ fn answer(rt: &LibcRuntime) -> Result<String, Failure> {
         words.push(word)?;
     }
     if words.is_empty() {
-        return Err(Failure::Told(format!(heap, "yarnbrick: no command; 'yarnbrick help' lists them")?));
+        return Err(Failure::Told(
+            format!(heap, "yarnbrick: no command; 'yarnbrick help' lists them")?,
+        ));
     }
     let name = words.remove(0);
     match console::command_of(heap, name.as_str(), words)? {
         Command::Help => Ok(String::from_str(heap, console::HELP)?),
         Command::Check { files } => console::check(heap, &gather(rt, files)?),
-        Command::Ports { switch, packet, files } => console::ports(heap, &gather(rt, files)?, switch, &packet),
+        Command::Ports {
+            switch,
+            packet,
+            files,
+        } => console::ports(heap, &gather(rt, files)?, switch, &packet),
     }
 }
 

@@ -1,5 +1,7 @@
 ghost use mathlib.Core.Path.{_≡_};
 ghost use Rattle.packet.specs.Faults.{number-of};
+ghost use Rattle.packet.specs.Telling.{builder-meaning, host-meaning, meaning-of, name-of, reader-meaning, switch-meaning, told};
+ghost use Rattle.std.specs.declared.option.Option.the-variants.{Some};
 use super::BuilderCause;
 use super::Call;
 use super::Fault;
@@ -41,38 +43,74 @@ impl Fault {
     }
 
     /// What the refusal means, in a few words.
-    fn meaning(&self) -> &'static str {
+    fn meaning(&self) -> &'static str
+        ensures { λ r. ⌜ now r ≡ meaning-of (now (self .entry)) ⌝ }
+    {
         match self {
-            Fault::Reader { cause, .. } => match cause {
-                ReaderCause::Byte => "a byte that stands in no policy text",
-                ReaderCause::Head => "a head word that cannot stand there",
-                ReaderCause::Word => "a wrong, missing or extra word or bracket",
-                ReaderCause::Value => "a malformed value, or one outside its field",
-                ReaderCause::Depth => "an opening bracket deeper than 16",
-                ReaderCause::Nodes => "a node past 64",
-            },
-            Fault::Builder { cause, .. } => match cause {
-                BuilderCause::NotCarried => "a test that the header kind does not carry",
-                BuilderCause::Copies => "a row with more than 8 copies",
-                BuilderCause::Rows => "more rows than fit",
-                BuilderCause::WorkRows => "more rows alive than work rows",
-            },
-            Fault::Host { cause, .. } => match cause {
-                HostCause::Numbers => "numbers that break a packet's rules",
-            },
-            Fault::Switch { cause, .. } => match cause {
-                SwitchCause::Shut => "the link is shut",
-                SwitchCause::Broken => "the link broke",
-                SwitchCause::Waiting => "16 messages wait already",
-                SwitchCause::Full => "the switch has no room for a row",
-            },
+            Fault::Reader { cause, .. } => cause.meaning(),
+            Fault::Builder { cause, .. } => cause.meaning(),
+            Fault::Host { cause, .. } => cause.meaning(),
+            Fault::Switch { cause, .. } => cause.meaning(),
+        }
+    }
+}
+
+impl ReaderCause {
+    fn meaning(self) -> &'static str
+        ensures { λ r. ⌜ now r ≡ reader-meaning self ⌝ }
+    {
+        match self {
+            ReaderCause::Byte => "a byte that stands in no policy text",
+            ReaderCause::Head => "a head word that cannot stand there",
+            ReaderCause::Word => "a wrong, missing or extra word or bracket",
+            ReaderCause::Value => "a malformed value, or one outside its field",
+            ReaderCause::Depth => "an opening bracket deeper than 16",
+            ReaderCause::Nodes => "a node past 64",
+        }
+    }
+}
+
+impl BuilderCause {
+    fn meaning(self) -> &'static str
+        ensures { λ r. ⌜ now r ≡ builder-meaning self ⌝ }
+    {
+        match self {
+            BuilderCause::NotCarried => "a test that the header kind does not carry",
+            BuilderCause::Copies => "a row with more than 8 copies",
+            BuilderCause::Rows => "more rows than fit",
+            BuilderCause::WorkRows => "more rows alive than work rows",
+        }
+    }
+}
+
+impl HostCause {
+    fn meaning(self) -> &'static str
+        ensures { λ r. ⌜ now r ≡ host-meaning self ⌝ }
+    {
+        match self {
+            HostCause::Numbers => "numbers that break a packet's rules",
+        }
+    }
+}
+
+impl SwitchCause {
+    fn meaning(self) -> &'static str
+        ensures { λ r. ⌜ now r ≡ switch-meaning self ⌝ }
+    {
+        match self {
+            SwitchCause::Shut => "the link is shut",
+            SwitchCause::Broken => "the link broke",
+            SwitchCause::Waiting => "16 messages wait already",
+            SwitchCause::Full => "the switch has no room for a row",
         }
     }
 }
 
 impl Call {
     /// The name by which a fault tells its place.
-    fn name(self) -> &'static str {
+    fn name(self) -> &'static str
+        ensures { λ r. ⌜ now r ≡ name-of self ⌝ }
+    {
         match self {
             Call::Packet => "packet",
             Call::Put => "put",
@@ -84,6 +122,8 @@ impl Call {
 }
 
 pub impl fmt::Display for Fault as FaultDisplay {
+    ghost shown = { λ f. Some (told f) };
+
     fn fmt<W: fmt::Write>(&self, f: &mut fmt::Formatter<W>) -> fmt::Result {
         let number = self.number();
         let meaning = self.meaning();
@@ -97,6 +137,7 @@ pub impl fmt::Display for Fault as FaultDisplay {
                 )
             }
             Fault::Builder { node, .. } => {
+                let node = *node;
                 write!(
                     f,
                     "refused {number} by the builder at node {node}: {meaning}"

@@ -28,12 +28,14 @@ step-requires c κs =
     }
 
 pub returns : need.returns
-returns c =
-    (search needs, λ n h.
-    let policy = c .args .policy .now in
-    let s = c .args .switch in
-    let k = c .args .packet .now in
-    let same = c .nodes-nodes .ensures in
-    let past : length (shapes-of policy) ≤ c .loop-i .i = omega (arith, ap length same, length-map (c .nodes-nodes .result .now) shape) in
-    let end = ap (λ l. after l (c .loop-i .i)) same ∙ at-end policy (c .loop-i .i) past in
-    c .count-sends .ensures n h ∙ ap (λ l. tally (n + 1) (map written l)) (c .as-slice .ensures) ∙ ap (tally (n + 1)) (c .loop-i .inv .sends-are ∙ ap (λ ts. sends-of ts s k) end) ∙ tally-gives (tree-of policy) s k (n + 1))
+returns c = (
+  search needs,
+  λ n h.
+      let policy = c .args .policy .now in
+      let s = c .args .switch in
+      let k = c .args .packet .now in
+      let same = c .nodes-nodes .ensures in
+      let past : length (shapes-of policy) ≤ c .loop-i .i = omega (arith, ap length same, length-map (c .nodes-nodes .result .now) shape) in
+      let end = ap (λ l. after l (c .loop-i .i)) same ∙ at-end policy (c .loop-i .i) past in
+      c .count-sends .ensures n h ∙ ap (λ l. tally (n + 1) (map written l)) (c .as-slice .ensures) ∙ ap (tally (n + 1)) (c .loop-i .inv .sends-are ∙ ap (λ ts. sends-of ts s k) end) ∙ tally-gives (tree-of policy) s k (n + 1),
+)
