@@ -1,0 +1,8 @@
+use Prim.Native.Nat.{_≤_}
+use mathlib.Core.Path.{_≡_}
+use lib.ListN.{drop}
+use Rattle.text.specs.Values.{at-most, digits}
+use Rattle.text.proofs.value.digits_of.Given as given
+
+abbrev pub Inv-loop-b : given.InvT-loop-b
+Inv-loop-b l = (l .n ≤ l .limit) × (at-most (l .limit) (digits (l .n) (drop (l .b-index) (l .word))) ≡ at-most (l .limit) (digits 0 (l .word)))

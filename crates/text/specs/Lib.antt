@@ -1,0 +1,11 @@
+pub mod Bytes
+pub mod Values
+pub mod Heads
+pub mod Newest
+pub mod Dues
+pub mod Steps
+pub mod View
+pub mod Text
+pub mod Cuts
+pub mod Grammar
+pub mod Reads

@@ -1,0 +1,15 @@
+//! A reading under way.
+use crate::due::Due;
+use packet::Bounded;
+use policy::Node;
+
+#[derive(Copy)]
+pub struct State {
+    // What each open bracket waits for, the innermost last.
+    pub brackets: Bounded<Due, 16>,
+    pub nodes: Bounded<Node, 64>,
+    // Whether this line has its form.
+    pub formed: bool,
+    // Whether a form has closed before, so that the next is joined to it.
+    pub joins: bool,
+}
