@@ -1,3 +1,7 @@
+ghost use mathlib.Core.Path.{_≡_};
+ghost use Rattle.console.specs.declared.failure.Failure.the-variants.{Memory, System, Told};
+ghost use Rattle.std.specs.Results.{Cases};
+ghost use Rattle.std.specs.declared.result.Result.the-variants.{Err};
 use std::alloc::AllocError;
 use std::alloc::Refused;
 use std::fmt;
@@ -15,18 +19,24 @@ pub enum Failure {
 }
 
 pub impl From<AllocError> for Failure as FailureFromAlloc {
+    ghost converts = { λ _ r. r ≡ Memory };
+
     fn from(_e: AllocError) -> Failure {
         Failure::Memory
     }
 }
 
 pub impl<T: Drop> From<Refused<T>> for Failure as FailureFromRefused {
+    ghost converts = { λ _ r. r ≡ Memory };
+
     fn from(_e: Refused<T>) -> Failure {
         Failure::Memory
     }
 }
 
 pub impl From<io::Error> for Failure as FailureFromIo {
+    ghost converts = { λ e r. r ≡ System e };
+
     fn from(e: io::Error) -> Failure {
         Failure::System(e)
     }
@@ -43,7 +53,9 @@ pub impl fmt::Display for Failure as FailureDisplay {
 }
 
 /// The failure that a line tells.
-pub fn told<T>(line: Result<String, AllocError>) -> Result<T, Failure> {
+pub fn told<T>(line: Result<String, AllocError>) -> Result<T, Failure>
+    ensures { λ r. ⌜ Cases line (λ s. r ≡ Err (Told s)) (λ _. r ≡ Err Memory) ⌝ }
+{
     match line {
         Ok(line) => Err(Failure::Told(line)),
         Err(_) => Err(Failure::Memory),

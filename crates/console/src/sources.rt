@@ -1,3 +1,7 @@
+ghost use mathlib.Core.Path.{_≡_};
+ghost use mathlib.Core.List.{[], _++_};
+ghost use Rattle.std.specs.Vec.{made};
+ghost use Rattle.console.specs.Texts.{ended, ends-line, text-of};
 use crate::failure::Failure;
 use crate::failure::FailureFromAlloc;
 use crate::failure::FailureFromRefused;
@@ -7,66 +11,57 @@ use packet::TextPlace;
 use std::alloc::AllocError;
 use std::alloc::Global;
 
-/// Where a file begins in the whole text.
-#[derive(Clone, Copy)]
-struct Start {
-    byte: usize,
-    lines: usize,
-}
-
 /// Policy files read as one text, in the order given.
 #[derive(Drop)]
 pub struct Sources {
     names: Vec<String>,
-    starts: Vec<Start>,
+    /// The byte of the text at which each file begins.
+    starts: Vec<usize>,
     text: Vec<u8>,
-    lines: usize,
 }
 
 impl Sources {
-    pub fn new(heap: Global) -> Sources {
+    /// No files.
+    pub fn new(heap: Global) -> Sources
+        ensures { λ r. ⌜ text-of r ≡ [] ⌝ }
+    {
         Sources {
             names: Vec::new(heap),
             starts: Vec::new(heap),
             text: Vec::new(heap),
-            lines: 0,
         }
     }
 
     /// One file more; where its last line has no end, it gets one.
-    pub fn add(&mut self, name: String, content: &[u8]) -> Result<(), Failure> {
-        self.starts
-            .push(Start {
-                byte: self.text.len(),
-                lines: self.lines,
-            })?;
+    pub fn add(&mut self, name: String, content: &[u8]) -> Result<(), Failure>
+        ensures { λ r. ⌜ made r (λ _. text-of (now (self .exit)) ≡ text-of (now (self .entry)) ++ ended (now (content .entry))) ⌝ }
+    {
         self.names.push(name)?;
+        self.starts.push(self.text.len())?;
         self.text.extend_from_slice(content)?;
-        self.lines = self.lines.saturating_add(line_ends(content));
-        if let Some(last) = content.last() {
-            if *last != b'\n' {
-                self.text.push(b'\n')?;
-                self.lines = self.lines.saturating_add(1);
-            }
+        if !has_line_end(content) {
+            self.text.push(b'\n')?;
         }
         Ok(())
     }
 
-    pub fn text(&self) -> &[u8] {
+    /// The whole text.
+    pub fn text(&self) -> &[u8]
+        ensures { λ r. ⌜ now r ≡ text-of (now (self .entry)) ⌝ }
+    {
         self.text.as_slice()
     }
 
     /// A fault in one line: a reader's with the file that it is in, and its place there.
     pub fn tell(&self, heap: Global, fault: &Fault) -> Result<String, AllocError> {
         match fault {
-            Fault::Reader { cause, place } => self.tell_in_file(
-                heap,
-                Fault::Reader {
+            Fault::Reader { cause, place } => {
+                let local = Fault::Reader {
                     cause: *cause,
                     place: self.in_file(place),
-                },
-                place,
-            ),
+                };
+                self.tell_in_file(heap, local, place)
+            }
             _ => format!(heap, "{fault}"),
         }
     }
@@ -96,7 +91,7 @@ impl Sources {
     fn file_of(&self, place: &TextPlace) -> usize {
         let mut found = 0;
         for (i, start) in self.starts.iter().enumerate() {
-            if start.byte <= place.byte {
+            if *start <= place.byte {
                 found = i;
             }
         }
@@ -105,14 +100,25 @@ impl Sources {
 
     /// The place counted in its own file.
     fn in_file(&self, place: &TextPlace) -> TextPlace {
-        match self.starts.get(self.file_of(place)) {
-            Some(start) => TextPlace {
-                line: place.line.saturating_sub(start.lines),
-                byte: place.byte.saturating_sub(start.byte),
+        let start = self.starts.get(self.file_of(place)).copied().unwrap_or(0);
+        match self.text().get(0..start) {
+            Some(before) => TextPlace {
+                line: place.line.saturating_sub(line_ends(before)),
+                byte: place.byte.saturating_sub(start),
             },
             None => *place,
         }
     }
+}
+
+/// Whether the last line of a file has its end; a file without bytes wants none.
+fn has_line_end(content: &[u8]) -> bool
+    ensures { λ r. ⌜ r ≡ ends-line (now (content .entry)) ⌝ }
+{
+    if content.is_empty() {
+        return true;
+    }
+    content[content.len() - 1] == b'\n'
 }
 
 /// How many line ends there are.

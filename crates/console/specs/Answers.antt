@@ -1,0 +1,29 @@
+-- What the answers of the program promise, in terms of the grammar and the meaning of policies.
+use mathlib.Core.Path.{_≡_}
+use mathlib.Core.List.{List}
+use Prim.Native.Nat.{ℕ}
+use lib.ListN.{length}
+use Rattle.std.specs.Of.String.{string-bytes}
+use Rattle.std.specs.declared.result.Result.{Result}
+use Rattle.std.specs.declared.result.Result.the-variants.{Ok, Err}
+use Rattle.packet.specs.declared.packet.Packet.{Packet}
+use Rattle.policy.specs.Meaning.{Counts}
+use Rattle.policy.specs.Trees.{Pol}
+use Rattle.text.specs.Grammar.{Writes, numbered}
+use Rattle.console.specs.Lines.{ports-line, nodes-line}
+use Rattle.console.specs.declared.failure.Failure.{Failure}
+use Rattle.console.specs.declared.failure.Failure.the-variants.{Told, System, Memory}
+
+-- no answer: the text writes no policy, or memory was wanting; no file is touched, so the system has no say
+abbrev pub Fails : List ℕ → Failure → Type 0
+Fails text (Told line) = (q : Pol) → Writes text q → ⊥
+Fails text (System e) = ⊥
+Fails text Memory = Unit {0}
+
+-- the text writes a policy, and the line says how many nodes it has
+abbrev pub Says-nodes : List ℕ → List ℕ → Type 0
+Says-nodes text line = (q : Pol) × Writes text q × (line ≡ nodes-line (length (numbered q)))
+
+-- the text writes a policy, and the line lists its copies of the packet at the switch
+abbrev pub Says-ports : List ℕ → ℕ → Packet → List ℕ → Type 0
+Says-ports text switch packet line = (q : Pol) × Writes text q × (counts : List ℕ) × Counts q switch packet counts × (line ≡ ports-line counts)
