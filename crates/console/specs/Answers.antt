@@ -9,7 +9,8 @@ use Rattle.std.specs.declared.result.Result.the-variants.{Ok, Err}
 use Rattle.packet.specs.declared.packet.Packet.{Packet}
 use Rattle.policy.specs.Meaning.{Counts}
 use Rattle.policy.specs.Trees.{Pol}
-use Rattle.text.specs.Grammar.{Writes, numbered}
+use Rattle.text.specs.Grammar.{Writes}
+use Rattle.text.specs.Numbered.{numbered}
 use Rattle.console.specs.Lines.{ports-line, nodes-line}
 use Rattle.console.specs.declared.failure.Failure.{Failure}
 use Rattle.console.specs.declared.failure.Failure.the-variants.{Told, System, Memory}

@@ -5,7 +5,7 @@ ghost use Rattle.std.specs.Of.String.{string-bytes};
 ghost use Rattle.std.specs.Results.{Cases};
 ghost use Rattle.std.specs.Vec.{made};
 ghost use Rattle.std.specs.Written.{decimal};
-ghost use Rattle.text.specs.Reads.{Written};
+ghost use Rattle.text.specs.Reads.{Reads-as};
 ghost use Rattle.console.specs.Answers.{Fails, Says-nodes, Says-ports};
 ghost use Rattle.console.specs.Lines.{listed, ports-line, repeated};
 ghost use Rattle.console.specs.Texts.{text-of};
@@ -30,7 +30,7 @@ Several files are one text. The switch is 1 unless given. -- ends options.";
 
 /// The policy of some files.
 fn policy_of(heap: Global, sources: &Sources) -> Result<Policy, Failure>
-    ensures { λ r. ⌜ Cases r (λ p. Written (text-of (now (sources .entry))) p) (λ f. Fails (text-of (now (sources .entry))) f) ⌝ }
+    ensures { λ r. ⌜ Cases r (λ p. Reads-as (text-of (now (sources .entry))) p) (λ f. Fails (text-of (now (sources .entry))) f) ⌝ }
 {
     let mut policy = Policy::empty();
     match read(&mut policy, sources.text()) {

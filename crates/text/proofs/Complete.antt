@@ -3,36 +3,36 @@ use mathlib.Core.Path.{_≡_, refl, sym, _∙_, ap, subst}
 use Rattle.std.proofs.shelf.Lists.{length-reverse}
 use Rattle.text.specs.Text.{ending, tokens, read-text}
 use Rattle.text.proofs.Spaces.{placed-run}
-use mathlib.Core.Bool.{Bool, true, false, cond}
-use mathlib.Core.List.{List, [], _∷_, reverse}
-use Prim.Native.Nat.{ℕ, suc, _+_, _<_, _≤_, max, zero-le}
+use mathlib.Core.Bool.{Bool, true, false}
+use mathlib.Core.List.{List, [], _∷_}
+use Prim.Native.Nat.{ℕ, _+_, _<_, _≤_, zero-le}
 use native.Mathlib.Omega.{arith}
-use lib.Chars.{codes}
 use lib.Dec.{ltb}
 use lib.ListN.{length}
-use Rattle.std.proofs.shelf.Tests.{cond-true, cond-false, lt-ltb, le-ltb}
+use Rattle.std.proofs.shelf.Tests.{cond-true, lt-ltb}
 use Rattle.std.specs.declared.option.Option.{Option}
 use Rattle.std.specs.declared.option.Option.the-variants.{Some, None}
-use Rattle.std.specs.declared.result.Result.{Result}
 use Rattle.std.specs.declared.result.Result.the-variants.{Ok, Err}
 use Rattle.packet.specs.declared.field.Field.{Field}
 use Rattle.packet.specs.declared.field.Field.the-variants.{DlSrc, DlDst, DlTyp, NwSrc, NwDst, NwProto, TpSrc, TpDst}
-use Rattle.packet.specs.declared.fault.ReaderCause.the-variants.{Byte, Head, Word, Value, Depth, Nodes}
+use Rattle.packet.specs.declared.fault.ReaderCause.the-variants.{Word, Value, Nodes}
 use Rattle.policy.specs.declared.node.Kind.{Kind}
 use Rattle.policy.specs.declared.node.Kind.the-variants.{Predicate, Policy}
 use Rattle.text.specs.declared.due.Op.the-variants.{And, Or, Not, Send, Both, Keep}
 use Rattle.policy.specs.Shapes.{Shape}
-use Rattle.policy.specs.Shapes.Shape.{n-any, n-at, n-is, n-and, n-or, n-not, n-send, n-both, n-keep}
+use Rattle.policy.specs.Shapes.Shape.{n-any, n-at, n-is, n-and, n-or, n-not, n-both, n-keep}
 use Rattle.text.specs.Dues.{Due}
 use Rattle.text.specs.Dues.Due.{d-head, d-switch, d-value, d-first, d-second, d-ports, d-close}
-use Rattle.text.specs.Steps.{Reading, Part, part-due, closes, fill, head-due, or-wrong, and-then}
+use Rattle.text.specs.Steps.{part-due, closes, fill, or-wrong, and-then}
 use Rattle.text.specs.Steps.{opening, line-ending, start}
 use Rattle.text.specs.Heads.{name}
-use Rattle.text.specs.Values.{numeral, port-from, test-from}
+use Rattle.text.specs.Values.{port-from}
 use Rattle.policy.specs.Trees.{Pred, Pol}
 use Rattle.policy.specs.Trees.Pred.{any, at, test, and, or, not}
 use Rattle.policy.specs.Trees.Pol.{send, both, keep}
-use Rattle.text.specs.Grammar.{Sign, s-open, s-close, s-line, s-other, s-word, Pred-in, in-any, in-at, in-test, in-and, in-or, in-not, Ports-in, no-ports, one-more, Pol-in, in-send, in-both, in-keep, depth, pol-depth, root, parts, push, pol-root, pol-parts, push-pol, joined, Lines, none-left, blank, last-form, form, whole, Writes, signs, numbered}
+use Rattle.text.specs.Grammar.{Sign, s-open, s-close, s-word, Pred-in, in-any, in-at, in-test, in-and, in-or, in-not, Ports-in, no-ports, one-more, Pol-in, in-send, in-both, in-keep, depth, pol-depth, joined, Lines, none-left, blank, last-form, form, whole, Writes}
+use Rattle.text.specs.Numbered.{numbered}
+use Rattle.text.proofs.Closing.{root, parts, push, pol-root, pol-parts, push-pol, in-order}
 use Rattle.packet.specs.PortLists.{placed}
 use Rattle.text.proofs.Machine.{st, run, run-open, run-word, run-closing}
 
@@ -185,14 +185,14 @@ lines-grow {o = Some p} (form {q = q} d h l) = omega (arith, pol-grows q (push-p
 in-lines : {o r : Option Pol} {ts : List Sign} → Lines o ts r → length (before r) ≤ 64 → run (st false (any-before o) [] (before o)) ts ≡ Ok (numbered (whole r))
 unfolding ending line-ending
 in-lines {o = None} none-left k = refl
-in-lines {o = Some p} none-left k = refl
+in-lines {o = Some p} none-left k = ap Ok (in-order p)
 in-lines (blank d) k = in-lines d k
-in-lines (last-form {o} {q} {ts} d h) k = whole-form o d h k
+in-lines (last-form {o} {q} {ts} d h) k = whole-form o d h k ∙ ap Ok (in-order (joined o q))
 in-lines (form {o} {r} {q} {ts} {us} d h l) k = whole-form o d h (omega (arith, lines-grow l)) ∙ in-lines l k
 
 few-before : (o : Option Pol) → length (numbered (whole o)) ≤ 64 → length (before o) ≤ 64
 few-before None h = omega arith
-few-before (Some q) h = omega (arith, length-reverse (push-pol q []))
+few-before (Some q) h = omega (arith, length-reverse (push-pol q []), ap length (in-order q))
 
 pub complete : (text : List ℕ) (q : Pol) → Writes text q → read-text text ≡ Ok (numbered q)
 unfolding read-text

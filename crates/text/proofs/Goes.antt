@@ -1,6 +1,6 @@
 -- Reading on past the first token, and the end of the text.
 use mathlib.Core.Path.{_≡_, refl, sym, _∙_, ap}
-use mathlib.Core.Bool.{Bool, true, false, cond}
+use mathlib.Core.Bool.{true, false, cond}
 use mathlib.Core.List.{List, [], _∷_, reverse}
 use Prim.Native.Nat.{ℕ, _+_, _-_, _<_, _≤_}
 use native.Mathlib.Omega.{arith}
@@ -15,11 +15,10 @@ use Rattle.text.specs.declared.class.Class.{Class}
 use Rattle.packet.specs.declared.fault.ReaderCause.{ReaderCause}
 use Rattle.packet.specs.declared.fault.ReaderCause.the-variants.{Word}
 use Rattle.text.specs.Bytes.{byte-class}
-use Rattle.policy.specs.Shapes.{Shape}
 use Rattle.policy.specs.Shapes.Shape.{n-any, n-send}
 use Rattle.text.specs.Dues.{Due}
 use Rattle.text.specs.Steps.{Reading, and-then}
-use Rattle.text.specs.Text.{Token, token, tokens, on-token, ending, ending-on, at-place, read-on, lines, size, item-size, item-lines, read-after, fault}
+use Rattle.text.specs.Text.{Token, token, tokens, on-token, ending, ending-on, at-place, read-on, size, item-size, item-lines, read-after, fault}
 use Rattle.text.proofs.Runs.{first-token, size-first, lines-first}
 
 pub goes-on : (line byte : ℕ) (s : Reading) (bs : List ℕ) (k : Class) (n : ℕ) (r : Result Reading ReaderCause) →

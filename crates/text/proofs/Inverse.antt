@@ -2,9 +2,8 @@
 use mathlib.Core.Path.{_≡_, refl, sym, _∙_, ap, subst}
 use mathlib.Core.Bool.{Bool, true, false, cond}
 use mathlib.Core.List.{List, [], _∷_}
-use mathlib.Core.Logic.{_⊎_, inl, inr, ⊎-elim}
-use Prim.Native.Nat.{ℕ, suc, _+_, _<_, _≤_}
-use native.Mathlib.Omega.{arith}
+use mathlib.Core.Logic.{⊎-elim}
+use Prim.Native.Nat.{ℕ, _<_}
 use lib.Chars.{codes}
 use lib.Dec.{ltb}
 use lib.ListN.{length}
@@ -18,7 +17,7 @@ use Rattle.std.specs.declared.result.Result.the-variants.{Ok, Err}
 use Rattle.packet.specs.declared.field.Field.{Field}
 use Rattle.packet.specs.declared.field.Field.the-variants.{DlSrc, DlDst, DlTyp, NwSrc, NwDst, NwProto, TpSrc, TpDst}
 use Rattle.packet.specs.declared.fault.ReaderCause.{ReaderCause}
-use Rattle.packet.specs.declared.fault.ReaderCause.the-variants.{Byte, Head, Word, Value, Depth, Nodes}
+use Rattle.packet.specs.declared.fault.ReaderCause.the-variants.{Head, Value, Depth, Nodes}
 use Rattle.policy.specs.declared.node.Kind.the-variants.{Predicate, Policy}
 use Rattle.text.specs.declared.due.Op.the-variants.{And, Or, Not, Send, Both, Keep}
 use Rattle.text.specs.Heads.{name, named-field}
@@ -26,16 +25,11 @@ use Rattle.policy.specs.Shapes.{Shape}
 use Rattle.policy.specs.Shapes.Shape.{n-any}
 use Rattle.text.specs.Dues.{Due}
 use Rattle.text.specs.Dues.Due.{d-head, d-switch, d-value, d-first, d-close}
-use Rattle.text.specs.Steps.{Reading, Part, part-due, closes, fill, head-due, value-due, or-wrong, grown, closed, close-node, open-part, opening, closing, line-ending, wording, and-then}
+use Rattle.text.specs.Steps.{Part, part-due, closes, fill, value-due, or-wrong, closed, close-node, open-part, opening, closing, line-ending, wording, and-then}
 use Rattle.text.specs.Text.{ending}
 use Rattle.text.specs.Grammar.{Sign, s-open, s-close, s-line, s-other, s-word}
+use Rattle.text.proofs.Clash.{err-ok}
 use Rattle.text.proofs.Machine.{st, run}
-
-pub err-ok : {A : Type 0} {x : ReaderCause} {a : A} → _≡_ {A = Result A ReaderCause} (Err x) (Ok a) → ⊥
-err-ok e = let z : _≡_ {A = ℕ} 0 1 = cc in omega arith
-
-pub none-some : {A : Type 0} {a : A} → _≡_ {A = Option A} None (Some a) → ⊥
-none-some e = let z : _≡_ {A = ℕ} 0 1 = cc in omega arith
 
 -- the first sign, inside a bracket, of what is read well
 pub data First (f j : Bool) (d : Due) (ds : List Due) (ns out : List Shape) : List Sign → Type 0 where

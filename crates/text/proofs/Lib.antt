@@ -1,14 +1,16 @@
-mod Stack
-mod Digits
-mod Moves
-mod Runs
-pub mod Cutting
-mod Hex
-mod Goes
-mod Machine
+pub mod Answering
+pub mod Clash
+pub mod Closing
 pub mod Complete
-mod Spaces
+pub mod Cutting
+pub mod Digits
+pub mod Goes
 pub mod Inverse
+pub mod Leaves
+pub mod Machine
+pub mod Moves
+pub mod Runs
 pub mod Sound
-mod Leaves
-mod Answering
+pub mod Spaces
+pub mod Stack
+pub mod Stopping

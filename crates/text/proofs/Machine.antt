@@ -1,24 +1,20 @@
 -- The reader's steps over a text without spaces.
-use mathlib.Core.Path.{_≡_, refl, sym, _∙_, ap}
-use mathlib.Core.Bool.{Bool, true, false, cond}
+use mathlib.Core.Path.{_≡_, _∙_, ap}
+use mathlib.Core.Bool.{Bool}
 use mathlib.Core.List.{List, [], _∷_}
-use Prim.Native.Nat.{ℕ, _+_, _<_, _≤_}
-use native.Mathlib.Omega.{arith}
+use Prim.Native.Nat.{ℕ, _<_}
 use lib.Dec.{ltb}
 use lib.ListN.{length}
-use Rattle.std.proofs.shelf.Tests.{cond-true, cond-false, lt-ltb, le-ltb}
-use Rattle.std.specs.declared.option.Option.{Option}
-use Rattle.std.specs.declared.option.Option.the-variants.{Some, None}
+use Rattle.std.proofs.shelf.Tests.{cond-true, lt-ltb}
+use Rattle.std.specs.declared.option.Option.the-variants.{Some}
 use Rattle.std.specs.declared.result.Result.{Result}
 use Rattle.std.specs.declared.result.Result.the-variants.{Ok, Err}
 use Rattle.packet.specs.declared.fault.ReaderCause.{ReaderCause}
-use Rattle.packet.specs.declared.fault.ReaderCause.the-variants.{Byte, Head, Word, Value, Depth, Nodes}
-use Rattle.policy.specs.declared.node.Kind.the-variants.{Predicate, Policy}
+use Rattle.packet.specs.declared.fault.ReaderCause.the-variants.{Byte, Depth, Nodes}
 use Rattle.policy.specs.Shapes.{Shape}
-use Rattle.policy.specs.Shapes.Shape.{n-both}
 use Rattle.text.specs.Dues.{Due}
 use Rattle.text.specs.Dues.Due.{d-head}
-use Rattle.text.specs.Steps.{Reading, Part, part-due, closes, fill, grown, join, closed, close-node, closing-on, word-on, open-part, opening-on, line-on, with-brackets, opening, closing, line-ending, wording, and-then}
+use Rattle.text.specs.Steps.{Reading, Part, part-due, closes, fill, closed, close-node, open-part, opening, closing, line-ending, wording, and-then}
 use Rattle.text.specs.Text.{ending}
 use Rattle.text.specs.Grammar.{Sign, s-open, s-close, s-line, s-other, s-word}
 

@@ -1,6 +1,6 @@
 -- What each item does to a reading, case by case.
 use mathlib.Core.Path.{_≡_, refl, sym, _∙_, ap}
-use mathlib.Core.Bool.{Bool, true, false, cond}
+use mathlib.Core.Bool.{true, false}
 use mathlib.Core.List.{List, [], _∷_, map}
 use Prim.Native.Nat.{ℕ, _<_, _≤_}
 use native.Mathlib.Omega.{arith}
@@ -8,13 +8,12 @@ use lib.Dec.{ltb}
 use lib.ListN.{length}
 use Rattle.std.proofs.shelf.Lists.{length-map}
 use Rattle.std.proofs.shelf.Tests.{cond-true, cond-false, lt-ltb, le-ltb}
-use Rattle.std.specs.declared.option.Option.{Option}
 use Rattle.std.specs.declared.option.Option.the-variants.{Some, None}
 use Rattle.std.specs.declared.result.Result.{Result}
 use Rattle.std.specs.declared.result.Result.the-variants.{Ok, Err}
-use Rattle.policy.specs.declared.node.Kind.the-variants.{Predicate, Policy}
+use Rattle.policy.specs.declared.node.Kind.the-variants.{Policy}
 use Rattle.packet.specs.declared.fault.ReaderCause.{ReaderCause}
-use Rattle.packet.specs.declared.fault.ReaderCause.the-variants.{Byte, Head, Word, Value, Depth, Nodes}
+use Rattle.packet.specs.declared.fault.ReaderCause.the-variants.{Word, Depth, Nodes}
 use Rattle.text.specs.declared.due.Due as code
 use Rattle.policy.specs.declared.node.Node as nodes
 use Rattle.policy.specs.Shapes.{Shape, shape}

@@ -1,6 +1,6 @@
 -- The first token of a text.
 use mathlib.Core.Path.{_≡_, refl, sym, _∙_, ap}
-use mathlib.Core.Bool.{Bool, true, false, cond}
+use mathlib.Core.Bool.{true, false, cond, true≢false, false≢true}
 use mathlib.Core.List.{List, [], _∷_}
 use Prim.Native.Nat.{ℕ, suc, _+_, _<_, _≤_, zero-le}
 use lib.Dec.{eqb}
@@ -9,11 +9,11 @@ use native.Mathlib.Omega.{arith}
 use lib.ListN.{length, getD, take, drop}
 use Rattle.std.proofs.shelf.Tests.{cond-true, cond-false, cases-bool}
 use mathlib.Core.Logic.{⊎-elim}
-use Rattle.std.proofs.shelf.Lists.{at-drop-more, at-drop-all, length-take-le}
+use Rattle.std.proofs.shelf.Lists.{at-drop-more, length-take-le}
 use Rattle.text.specs.declared.class.Class.{Class}
 use Rattle.text.specs.declared.class.Class.the-variants.{Opening, Closing, Space, LineEnd, Letter, Digit, Point, Stroke, Other}
 use Rattle.text.specs.Bytes.{byte-class}
-use Rattle.text.specs.Text.{Token, t-open, t-close, t-space, t-line, t-other, t-word, token, in-word, grow, tokens, run, item-size, size, lines}
+use Rattle.text.specs.Text.{Token, t-word, token, in-word, grow, tokens, run, item-size, size, lines}
 
 pub run-more : (w : List ℕ) (n : ℕ) → n < length w → in-word (byte-class (getD w n 0)) ≡ true → run (drop n w) ≡ suc (run (drop (n + 1) w))
 run-more w n h t = at-drop-more run w n 0 h ∙ cond-true (in-word (byte-class (getD w n 0))) (suc (run (drop (n + 1) w))) 0 t
@@ -28,10 +28,10 @@ alone b Closing ts h = refl
 alone b Space ts h = refl
 alone b LineEnd ts h = refl
 alone b Other ts h = refl
-alone b Letter ts h = absurd (let z : _≡_ {A = ℕ} 0 1 = cc in omega arith)
-alone b Digit ts h = absurd (let z : _≡_ {A = ℕ} 0 1 = cc in omega arith)
-alone b Point ts h = absurd (let z : _≡_ {A = ℕ} 0 1 = cc in omega arith)
-alone b Stroke ts h = absurd (let z : _≡_ {A = ℕ} 0 1 = cc in omega arith)
+alone b Letter ts h = absurd (true≢false h)
+alone b Digit ts h = absurd (true≢false h)
+alone b Point ts h = absurd (true≢false h)
+alone b Stroke ts h = absurd (true≢false h)
 
 module _ (b c : ℕ) (cs : List ℕ) where
   longer : in-word (byte-class c) ≡ true → grow c (tokens cs) ≡ t-word (c ∷ take (run cs) cs) ∷ tokens (drop (run cs) cs) →
@@ -63,11 +63,11 @@ token-word Letter w h = refl
 token-word Digit w h = refl
 token-word Point w h = refl
 token-word Stroke w h = refl
-token-word Opening w h = absurd (let z : _≡_ {A = ℕ} 0 1 = cc in omega arith)
-token-word Closing w h = absurd (let z : _≡_ {A = ℕ} 0 1 = cc in omega arith)
-token-word Space w h = absurd (let z : _≡_ {A = ℕ} 0 1 = cc in omega arith)
-token-word LineEnd w h = absurd (let z : _≡_ {A = ℕ} 0 1 = cc in omega arith)
-token-word Other w h = absurd (let z : _≡_ {A = ℕ} 0 1 = cc in omega arith)
+token-word Opening w h = absurd (false≢true h)
+token-word Closing w h = absurd (false≢true h)
+token-word Space w h = absurd (false≢true h)
+token-word LineEnd w h = absurd (false≢true h)
+token-word Other w h = absurd (false≢true h)
 
 token-other : (k : Class) (w : List ℕ) → in-word k ≡ false → token k [] ≡ token k w
 token-other Opening w h = refl
@@ -75,10 +75,10 @@ token-other Closing w h = refl
 token-other Space w h = refl
 token-other LineEnd w h = refl
 token-other Other w h = refl
-token-other Letter w h = absurd (let z : _≡_ {A = ℕ} 0 1 = cc in omega arith)
-token-other Digit w h = absurd (let z : _≡_ {A = ℕ} 0 1 = cc in omega arith)
-token-other Point w h = absurd (let z : _≡_ {A = ℕ} 0 1 = cc in omega arith)
-token-other Stroke w h = absurd (let z : _≡_ {A = ℕ} 0 1 = cc in omega arith)
+token-other Letter w h = absurd (true≢false h)
+token-other Digit w h = absurd (true≢false h)
+token-other Point w h = absurd (true≢false h)
+token-other Stroke w h = absurd (true≢false h)
 
 module _ (b : ℕ) (bs : List ℕ) where
   first-word : in-word (byte-class b) ≡ true → tokens (b ∷ bs) ≡ token (byte-class b) (take (item-size (b ∷ bs)) (b ∷ bs)) ∷ tokens (drop (item-size (b ∷ bs)) (b ∷ bs))

@@ -1,9 +1,9 @@
 -- Only texts of the grammar are read.
 use mathlib.Core.Path.{_≡_, refl, sym, _∙_, ap, subst}
-use mathlib.Core.Bool.{Bool, true, false, cond}
+use mathlib.Core.Bool.{Bool, true, false}
 use mathlib.Core.List.{List, [], _∷_, reverse}
 use mathlib.Core.Logic.{⊎-elim}
-use Prim.Native.Nat.{ℕ, zero, suc, _+_, _<_, _≤_, max}
+use Prim.Native.Nat.{ℕ, zero, suc, _+_, _<_, _≤_}
 use native.Mathlib.Omega.{arith}
 use lib.Chars.{codes}
 use lib.Dec.{ltb}
@@ -11,9 +11,8 @@ use lib.ListN.{length}
 use Rattle.std.proofs.shelf.Tests.{cond-true, cond-false, lt-ltb, le-ltb, cases-lt}
 use Rattle.std.specs.declared.option.Option.{Option}
 use Rattle.std.specs.declared.option.Option.the-variants.{Some, None}
-use Rattle.std.specs.declared.result.Result.{Result}
 use Rattle.std.specs.declared.result.Result.the-variants.{Ok, Err}
-use Rattle.packet.specs.declared.fault.ReaderCause.the-variants.{Byte, Head, Word, Value, Depth, Nodes}
+use Rattle.packet.specs.declared.fault.ReaderCause.the-variants.{Word, Value, Nodes}
 use Rattle.policy.specs.declared.node.Kind.the-variants.{Predicate, Policy}
 use Rattle.text.specs.declared.due.Op.the-variants.{And, Or, Not, Send, Both, Keep}
 use Rattle.packet.specs.declared.field.Field.{Field}
@@ -26,15 +25,18 @@ use Rattle.text.specs.Dues.Due.{d-head, d-switch, d-value, d-first, d-second, 
 use Rattle.text.specs.Text.{ending, tokens, read-text}
 use Rattle.text.proofs.Spaces.{run-placed}
 use Rattle.std.proofs.shelf.Lists.{length-reverse}
-use Rattle.text.specs.Steps.{opening, closing, line-ending, wording, start, Part, part-due, closes, fill, closed, or-wrong, and-then}
+use Rattle.text.specs.Steps.{opening, closing, line-ending, wording, start, part-due, closes, fill, closed, or-wrong, and-then}
 use Rattle.policy.specs.Trees.{Pred, Pol}
 use Rattle.policy.specs.Trees.Pred.{any, at, test, and, or, not}
 use Rattle.policy.specs.Trees.Pol.{send, both, keep}
-use Rattle.text.specs.Grammar.{Sign, s-open, s-close, s-line, s-other, s-word, Pred-in, in-any, in-at, in-test, in-and, in-or, in-not, Ports-in, no-ports, one-more, Pol-in, in-send, in-both, in-keep, depth, pol-depth, root, parts, push, pol-root, pol-parts, push-pol, joined, Lines, none-left, blank, last-form, form, whole, Writes, signs, numbered}
+use Rattle.text.specs.Grammar.{Sign, s-open, s-close, s-line, s-other, s-word, Pred-in, in-any, in-at, in-test, in-and, in-or, in-not, Ports-in, no-ports, one-more, Pol-in, in-send, in-both, in-keep, depth, pol-depth, joined, Lines, none-left, blank, last-form, form, whole, Writes, signs}
+use Rattle.text.specs.Numbered.{numbered}
+use Rattle.text.proofs.Closing.{root, parts, push, pol-parts, push-pol, in-order}
 use Rattle.packet.specs.PortLists.{placed}
 use Rattle.text.proofs.Complete.{pol-top, before, any-before}
 use Rattle.text.proofs.Machine.{st, run}
-use Rattle.text.proofs.Inverse.{err-ok, none-some, First, by-open, by-word, by-close, first, Pred-head, h-any, h-at, h-and, h-or, h-not, h-field, pred-head, Pol-head, h-send, h-both, h-keep, pol-head, taken}
+use Rattle.text.proofs.Clash.{err-ok, none-some}
+use Rattle.text.proofs.Inverse.{First, by-open, by-word, by-close, first, Pred-head, h-any, h-at, h-and, h-or, h-not, h-field, pred-head, Pol-head, h-send, h-both, h-keep, pol-head, taken}
 
 -- the inside of a bracket that a predicate was due in
 data Pred-found (f j : Bool) (ds : List Due) (ns out : List Shape) : List Sign → Type 0 where
@@ -232,7 +234,7 @@ module _ (n : ℕ) (ih : Finds-lines n) (o : Option Pol) (out : List Shape) wher
   after-form : {ts : List Sign} (q : Pol) (us : List Sign) → Pol-in q ts (s-close ∷ us) → pol-depth q ≤ 16 → length us ≤ n → length (push-pol (joined o q) []) ≤ 64 →
       run (st true true [] (push-pol (joined o q) [])) us ≡ Ok out → Lines-found o (s-open ∷ ts) out
   unfolding ending opening closing line-ending wording
-  after-form q [] d h l k e = let z : reverse (push-pol (joined o q) []) ≡ out = cc in (Some (joined o q), last-form d h, sym z, k)
+  after-form q [] d h l k e = let z : reverse (push-pol (joined o q) []) ≡ out = cc in (Some (joined o q), last-form d h, sym z ∙ in-order (joined o q), k)
   after-form q (s-line ∷ us) d h l k e =
       let t : Lines-found (Some (joined o q)) us out = ih (Some (joined o q)) out us (omega arith) k e in
       (t .0, form d h (t .1), t .2, t .3)
@@ -260,7 +262,7 @@ form-found n ih (Some p) out l (pol-of {ts} {us} q d s h m g) =
 sound-lines : (n : ℕ) → Finds-lines n
 unfolding ending opening closing line-ending wording
 sound-lines n None out [] l k e = let z : n-any ∷ n-send [] ∷ [] ≡ out = cc in (None, none-left, sym z, k)
-sound-lines n (Some p) out [] l k e = let z : reverse (push-pol p []) ≡ out = cc in (Some p, none-left, sym z, k)
+sound-lines n (Some p) out [] l k e = let z : reverse (push-pol p []) ≡ out = cc in (Some p, none-left, sym z ∙ in-order p, k)
 sound-lines zero o out (s-line ∷ ts) l k e = absurd (omega arith)
 sound-lines (suc n) o out (s-line ∷ ts) l k e =
     let t : Lines-found o ts out = sound-lines n o out ts (omega arith) k e in (t .0, blank (t .1), t .2, t .3)
@@ -272,7 +274,7 @@ sound-lines n o out (s-word w ∷ ts) l k e = absurd (err-ok e)
 
 few-numbered : (o : Option Pol) → length (before o) ≤ 64 → length (numbered (whole o)) ≤ 64
 few-numbered None h = omega arith
-few-numbered (Some q) h = omega (arith, length-reverse (push-pol q []))
+few-numbered (Some q) h = omega (arith, length-reverse (push-pol q []), ap length (in-order q))
 
 pub sound : (text : List ℕ) (ns : List Shape) → read-text text ≡ Ok ns → (q : Pol) × Writes text q × (ns ≡ numbered q)
 unfolding read-text

@@ -1,35 +1,35 @@
 -- Places and spaces do not change what a text is read as.
-use mathlib.Core.Path.{_≡_, refl, sym, _∙_, ap}
+use mathlib.Core.Path.{_≡_, ap}
 use mathlib.Core.List.{List, [], _∷_}
 use Prim.Native.Nat.{ℕ, _+_}
-use native.Mathlib.Omega.{arith}
 use Rattle.std.specs.declared.result.Result.{Result}
 use Rattle.std.specs.declared.result.Result.the-variants.{Ok, Err}
 use Rattle.packet.specs.declared.fault.ReaderCause.{ReaderCause}
 use Rattle.packet.specs.declared.fault.Fault.{Fault}
 use Rattle.policy.specs.Shapes.{Shape}
 use Rattle.text.specs.Steps.{Reading, and-then}
-use Rattle.text.specs.Text.{Token, t-open, t-close, t-space, t-line, t-other, t-word, at-place, ending, on-token, read-on, lines, size}
-use Rattle.text.specs.Grammar.{Sign, s-open, s-close, s-line, s-other, s-word, signs}
+use Rattle.text.specs.Text.{Token, t-open, t-close, t-space, t-line, t-other, t-word, at-place, ending, read-on, size}
+use Rattle.text.specs.Grammar.{s-open, s-close, s-line, s-other, s-word, signs}
+use Rattle.text.proofs.Clash.{err-ok}
 use Rattle.text.proofs.Machine.{run, move}
 
 module _ (ns : List Shape) where
   there : (x : Result Reading ReaderCause) (line byte : ℕ) (K : Reading → Result (List Shape) ReaderCause) (L : Reading → Result (List Shape) Fault) →
       ((r : Reading) → K r ≡ Ok ns → L r ≡ Ok ns) → and-then x K ≡ Ok ns → and-then (at-place line byte x) L ≡ Ok ns
   there (Ok r) line byte K L h e = h r e
-  there (Err w) line byte K L h e = absurd (let z : _≡_ {A = ℕ} 0 1 = cc in omega arith)
+  there (Err w) line byte K L h e = absurd (err-ok e)
 
   back : (x : Result Reading ReaderCause) (line byte : ℕ) (K : Reading → Result (List Shape) ReaderCause) (L : Reading → Result (List Shape) Fault) →
       ((r : Reading) → L r ≡ Ok ns → K r ≡ Ok ns) → and-then (at-place line byte x) L ≡ Ok ns → and-then x K ≡ Ok ns
   back (Ok r) line byte K L h e = h r e
-  back (Err w) line byte K L h e = absurd (let z : _≡_ {A = ℕ} 0 1 = cc in omega arith)
+  back (Err w) line byte K L h e = absurd (err-ok e)
 
   there-end : (x : Result (List Shape) ReaderCause) (line byte : ℕ) → x ≡ Ok ns → at-place line byte x ≡ Ok ns
   there-end x line byte e = ap (at-place line byte) e
 
   back-end : (x : Result (List Shape) ReaderCause) (line byte : ℕ) → at-place line byte x ≡ Ok ns → x ≡ Ok ns
   back-end (Ok m) line byte e = let f : m ≡ ns = cc in ap Ok f
-  back-end (Err w) line byte e = absurd (let z : _≡_ {A = ℕ} 0 1 = cc in omega arith)
+  back-end (Err w) line byte e = absurd (err-ok e)
 
   pub placed-run : (ts : List Token) (line byte : ℕ) (s : Reading) → run s (signs ts) ≡ Ok ns → read-on line byte s ts ≡ Ok ns
   placed-run [] line byte s e = there-end (ending s) line byte e

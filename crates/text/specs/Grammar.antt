@@ -1,6 +1,6 @@
 -- The policy text as a grammar: which policies a text writes.
 use mathlib.Core.Path.{_≡_}
-use mathlib.Core.List.{List, [], _∷_, reverse}
+use mathlib.Core.List.{List, [], _∷_}
 use Prim.Native.Nat.{ℕ, suc, _<_, _≤_, max}
 use lib.Chars.{codes}
 use lib.ListN.{length}
@@ -9,13 +9,13 @@ use Rattle.std.specs.declared.option.Option.the-variants.{Some, None}
 use Rattle.packet.specs.declared.field.Field.{Field}
 use Rattle.packet.specs.declared.test.Test.{Test}
 use Rattle.packet.specs.PortLists.{placed}
+use Rattle.policy.specs.Finishing.{empty-tree}
 use Rattle.policy.specs.Trees.{Pred, Pol}
 use Rattle.policy.specs.Trees.Pred.{any, at, test, and, or, not}
 use Rattle.policy.specs.Trees.Pol.{send, both, keep}
 use Rattle.text.specs.Heads.{name}
 use Rattle.text.specs.Values.{numeral, port-from, test-from}
-use Rattle.policy.specs.Shapes.{Shape}
-use Rattle.policy.specs.Shapes.Shape.{n-any, n-at, n-is, n-and, n-or, n-not, n-send, n-both, n-keep}
+use Rattle.text.specs.Numbered.{numbered}
 use Rattle.text.specs.Text.{Token, t-open, t-close, t-space, t-line, t-other, t-word, tokens}
 
 -- what stands in a text, spaces left out
@@ -79,46 +79,8 @@ pub data Lines : Option Pol → List Sign → Option Pol → Type 0 where
 
 -- a text without forms is the empty policy
 abbrev pub whole : Option Pol → Pol
-whole None = send any []
+whole None = empty-tree
 whole (Some q) = q
-
--- the nodes as brackets close, the newest first, after those in ns
-abbrev pub root : Pred → Shape
-root any = n-any
-root (at n) = n-at n
-root (test t) = n-is t
-root (and a b) = n-and
-root (or a b) = n-or
-root (not a) = n-not
-
--- the nodes of a predicate's parts, after those in ns; then its own
-abbrev pub parts : Pred → List Shape → List Shape
-parts any ns = ns
-parts (at n) ns = ns
-parts (test t) ns = ns
-parts (and a b) ns = root b ∷ parts b (root a ∷ parts a ns)
-parts (or a b) ns = root b ∷ parts b (root a ∷ parts a ns)
-parts (not a) ns = root a ∷ parts a ns
-
-abbrev pub push : Pred → List Shape → List Shape
-push p ns = root p ∷ parts p ns
-
-abbrev pub pol-root : Pol → Shape
-pol-root (send p ps) = n-send ps
-pol-root (both a b) = n-both
-pol-root (keep p q) = n-keep
-
-abbrev pub pol-parts : Pol → List Shape → List Shape
-pol-parts (send p ps) ns = push p ns
-pol-parts (both a b) ns = pol-root b ∷ pol-parts b (pol-root a ∷ pol-parts a ns)
-pol-parts (keep p q) ns = pol-root q ∷ pol-parts q (push p ns)
-
-abbrev pub push-pol : Pol → List Shape → List Shape
-push-pol q ns = pol-root q ∷ pol-parts q ns
-
--- a policy's nodes in their order
-abbrev pub numbered : Pol → List Shape
-numbered q = reverse (push-pol q [])
 
 -- a text writes a policy of at most 64 nodes
 pub record Writes (text : List ℕ) (q : Pol) : Type 0 where

@@ -1,11 +1,13 @@
 pub mod Bytes
 pub mod Values
+pub mod Cuts
 pub mod Heads
 pub mod Newest
 pub mod Dues
+pub mod Numbered
 pub mod Steps
 pub mod View
 pub mod Text
-pub mod Cuts
 pub mod Grammar
+pub mod Places
 pub mod Reads

@@ -3,7 +3,7 @@ use mathlib.Core.Bool.{Bool, true, false, cond}
 use mathlib.Core.List.{List, [], _∷_}
 use Prim.Native.Nat.{ℕ}
 use lib.Chars.{codes}
-use lib.Dec.{ltb, leb}
+use lib.Dec.{ltb}
 use lib.ListN.{length}
 use Rattle.std.specs.shelf.Text.{sameBytes}
 use Rattle.std.specs.declared.option.Option.{Option}
@@ -16,7 +16,7 @@ use Rattle.policy.specs.declared.node.Kind.the-variants.{Predicate, Policy}
 use Rattle.text.specs.declared.due.Op.{Op}
 use Rattle.text.specs.declared.due.Op.the-variants.{And, Or, Not, Send, Both, Keep}
 use Rattle.packet.specs.declared.fault.ReaderCause.{ReaderCause}
-use Rattle.packet.specs.declared.fault.ReaderCause.the-variants.{Byte, Head, Word, Value, Depth, Nodes}
+use Rattle.packet.specs.declared.fault.ReaderCause.the-variants.{Head, Word, Value, Depth, Nodes}
 use Rattle.policy.specs.Shapes.{Shape}
 use Rattle.policy.specs.Shapes.Shape.{n-any, n-at, n-is, n-and, n-or, n-not, n-send, n-both, n-keep}
 use Rattle.text.specs.Dues.{Due}
@@ -25,7 +25,8 @@ use Rattle.packet.specs.PortLists.{placed}
 use Rattle.text.specs.Heads.{named-field}
 use Rattle.text.specs.Values.{numeral, port-from, test-from}
 
--- a reading under way: the open brackets and the nodes made, the newest first; whether this line has its form; whether a form has closed before, so that the next is joined
+-- a reading under way: what each open bracket waits for and the nodes made, the newest first,
+-- whether this line has its form, and whether a form has closed before, so that the next is joined to it
 pub record Reading : Type 0 where
   pub brackets : List Due
   pub nodes : List Shape

@@ -14,7 +14,8 @@ use Rattle.packet.specs.declared.fault.Fault.{Fault}
 use Rattle.packet.specs.declared.fault.Fault.the-variants.{Reader}
 use Rattle.text.specs.Bytes.{byte-class}
 use Rattle.policy.specs.Shapes.{Shape}
-use Rattle.policy.specs.Shapes.Shape.{n-any, n-send}
+use Rattle.policy.specs.Finishing.{empty-tree}
+use Rattle.text.specs.Numbered.{numbered}
 use Rattle.text.specs.Dues.{Due}
 use Rattle.text.specs.Steps.{Reading, start, and-then, opening, closing, line-ending, wording}
 
@@ -73,9 +74,9 @@ on-token s t-line = line-ending s
 on-token s t-other = Err Byte
 on-token s (t-word w) = wording s w
 
--- the nodes in their order, or what is wrong with the end of the text; a text without forms is send of any to no ports
+-- the nodes in their order, or what is wrong with the end of the text; a text without forms is the empty policy
 abbrev pub ending-on : Reading → List Due → Result (List Shape) ReaderCause
-ending-on s [] = Ok (cond (s .joins) (reverse (s .nodes)) (n-any ∷ n-send [] ∷ []))
+ending-on s [] = Ok (cond (s .joins) (reverse (s .nodes)) (numbered empty-tree))
 ending-on s (d ∷ ds) = Err Word
 
 unfoldable pub ending : Reading → Result (List Shape) ReaderCause

@@ -18,16 +18,24 @@ abbrev pub and-some : {A B : Type 0} → Option A → (A → Option B) → Optio
 and-some None f = None
 and-some (Some a) f = f a
 
--- digits read on from a value n, or none where another byte stands among them
-abbrev pub digits : ℕ → List ℕ → Option ℕ
-digits n [] = Some n
-digits n (b ∷ bs) = cond (between 48 57 b) (digits (n * 10 + (b - 48)) bs) None
+-- a digit 0 to 9
+abbrev pub digit : ℕ → Option ℕ
+digit b = cond (between 48 57 b) (Some (b - 48)) None
+
+-- a digit 0 to 9 or a to f
+abbrev pub nibble : ℕ → Option ℕ
+nibble b = cond (between 97 102 b) (Some (b - 87)) (digit b)
+
+-- digits of a base read on from a value n, or none where another byte stands among them
+abbrev pub digits : ℕ → (ℕ → Option ℕ) → ℕ → List ℕ → Option ℕ
+digits base one n [] = Some n
+digits base one n (b ∷ bs) = and-some (one b) (λ d. digits base one (n * base + d) bs)
 
 -- a decimal: one or more digits, the first no 0 unless it is alone
 abbrev pub decimal : List ℕ → Option ℕ
 decimal [] = None
-decimal (b ∷ []) = digits 0 (b ∷ [])
-decimal (b ∷ c ∷ bs) = cond (eqb b 48) None (digits 0 (b ∷ c ∷ bs))
+decimal (b ∷ []) = digits 10 digit 0 (b ∷ [])
+decimal (b ∷ c ∷ bs) = cond (eqb b 48) None (digits 10 digit 0 (b ∷ c ∷ bs))
 
 abbrev pub at-most : ℕ → Option ℕ → Option ℕ
 at-most limit None = None
@@ -41,18 +49,9 @@ numeral limit w = at-most limit (decimal w)
 abbrev pub port-from : List ℕ → Option ℕ
 port-from w = and-some (numeral 255 w) (λ n. cond (is-port n) (Some n) None)
 
--- a digit 0 to 9 or a to f
-abbrev pub nibble : ℕ → Option ℕ
-nibble b = cond (between 48 57 b) (Some (b - 48)) (cond (between 97 102 b) (Some (b - 87)) None)
-
--- such digits read on from a value n
-abbrev pub nibbles : ℕ → List ℕ → Option ℕ
-nibbles n [] = Some n
-nibbles n (b ∷ bs) = and-some (nibble b) (λ d. nibbles (n * 16 + d) bs)
-
 -- a hardware address
 abbrev pub hardware : List ℕ → Option ℕ
-hardware w = cond (eqb (length w) 12) (nibbles 0 w) None
+hardware w = cond (eqb (length w) 12) (digits 16 nibble 0 w) None
 
 -- what stands before and after the first byte sep
 pub record Cut : Type 0 where

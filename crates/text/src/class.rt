@@ -2,6 +2,7 @@
 ghost use mathlib.Core.Path.{_≡_};
 ghost use Rattle.text.specs.Bytes.{byte-class};
 
+/// The classes of bytes. Letters, digits, points and strokes stand in words.
 #[derive(Clone, Copy)]
 pub enum Class {
     Opening,
@@ -15,6 +16,7 @@ pub enum Class {
     Other,
 }
 
+/// The class of a byte.
 pub fn class_of(b: u8) -> Class
     ensures { λ r. ⌜ r ≡ byte-class b ⌝ }
 {

@@ -4,6 +4,7 @@ ghost use Rattle.std.specs.shelf.Text.{sameBytes};
 ghost use Rattle.text.specs.Heads.{named-field};
 use packet::Field;
 
+/// Whether a word is that name.
 pub fn same(w: &[u8], name: &[u8]) -> bool
     ensures { λ r. ⌜ r ≡ sameBytes (now (w .entry)) (now (name .entry)) ⌝ }
 {

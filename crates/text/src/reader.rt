@@ -4,7 +4,7 @@ ghost use Prim.Native.Nat.{ℕ, _≤_, _<_};
 ghost use lib.ListN.{length, getD};
 ghost use Rattle.std.specs.declared.result.Result.the-variants.{Ok, Err};
 ghost use Rattle.text.specs.Bytes.{byte-class};
-ghost use Rattle.text.specs.Reads.{Answer, Meaning};
+ghost use Rattle.text.specs.Reads.{Answer, Grammatical};
 ghost use Rattle.text.specs.Steps.{answered};
 ghost use Rattle.text.specs.Text.{token, tokens, on-token, ending, item-size, fault, read-after, read-on, read-text};
 ghost use Rattle.text.specs.View.{reading, made-of};
@@ -22,7 +22,7 @@ use policy::Node;
 use policy::Policy;
 
 impl State {
-    // One item of the text, by the class of its first byte.
+    /// One item of the text, by the class of its first byte.
     fn take(&mut self, class: Class, item: &[u8]) -> Result<(), ReaderCause>
         ensures { λ r. ⌜ on-token (reading (now (self .entry))) (token class (now (item .entry))) ≡ answered r (reading (now (self .exit))) ⌝ }
     {
@@ -36,7 +36,7 @@ impl State {
         }
     }
 
-    // The first item of what is left of the text; answers its length.
+    /// The first item of what is left of the text; answers its length.
     fn next(&mut self, rest: &[u8]) -> Result<usize, ReaderCause>
         requires { ⌜ 0 < length (now rest) ⌝ }
         ensures within { λ r. ⌜ elim r [ Ok n ↦ (0 < n) × (n ≤ length (now (rest .entry))) | Err e ↦ Unit {0} ] ⌝ }
@@ -48,7 +48,7 @@ impl State {
         Ok(n)
     }
 
-    // The nodes, at the end of the text.
+    /// The nodes, at the end of the text.
     fn finish(self) -> Result<Bounded<Node, 64>, ReaderCause>
         ensures { λ r. ⌜ ending (reading self) ≡ made-of r ⌝ }
     {
@@ -65,6 +65,7 @@ impl State {
     }
 }
 
+/// How many bytes the first item has.
 fn item_len(class: Class, rest: &[u8]) -> usize
     requires { ⌜ 0 < length (now rest) ⌝ ∗ ⌜ class ≡ byte-class (getD (now rest) 0 0) ⌝ }
     ensures { λ r. ⌜ r ≡ item-size (now (rest .entry)) ⌝ }
@@ -76,6 +77,7 @@ fn item_len(class: Class, rest: &[u8]) -> usize
     }
 }
 
+/// The fault of an item that begins there.
 fn fault_at(cause: ReaderCause, line: usize, byte: usize) -> Fault
     ensures { λ r. ⌜ r ≡ fault line byte cause ⌝ }
 {
@@ -85,7 +87,7 @@ fn fault_at(cause: ReaderCause, line: usize, byte: usize) -> Fault
     }
 }
 
-// The nodes of a policy text, or its first fault.
+/// The nodes of a policy text, or its first fault.
 fn nodes_of(text: &[u8]) -> Result<Bounded<Node, 64>, Fault>
     ensures { λ r. ⌜ made-of r ≡ read-text (now (text .entry)) ⌝ }
 {
@@ -112,7 +114,7 @@ fn nodes_of(text: &[u8]) -> Result<Bounded<Node, 64>, Fault>
 /// Reads a policy text into a place, or refuses it with its first fault and leaves the place as it was.
 pub fn read(place: &mut Policy, text: &[u8]) -> Result<(), Fault>
     ensures answer { λ r. ⌜ Answer (now (text .entry)) r (now (place .entry)) (now (place .exit)) ⌝ }
-    ensures grammar { λ r. ⌜ Meaning (now (text .entry)) r (now (place .exit)) ⌝ }
+    ensures grammar { λ r. ⌜ Grammatical (now (text .entry)) r (now (place .exit)) ⌝ }
 {
     let nodes = nodes_of(text)?;
     match Policy::from_nodes(nodes) {

@@ -4,6 +4,7 @@ ghost use Rattle.text.specs.Text.{in-word, run};
 use crate::class::Class;
 use crate::class::class_of;
 
+/// Whether a byte of the class stands in a word.
 pub fn stands_in_word(class: Class) -> bool
     ensures { λ r. ⌜ r ≡ in-word class ⌝ }
 {
@@ -13,7 +14,7 @@ pub fn stands_in_word(class: Class) -> bool
     }
 }
 
-// How many bytes at the front stand in a word.
+/// How many bytes at the front stand in a word.
 pub fn word_len(w: &[u8]) -> usize
     ensures { λ r. ⌜ r ≡ run (now (w .entry)) ⌝ }
 {

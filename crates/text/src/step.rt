@@ -24,6 +24,7 @@ use policy::Node;
 /// How many ports a send has at most.
 const MOST_PORTS: usize = 8;
 
+/// The first part of a bracket, and what is due after it.
 fn first_part(op: Op) -> Part
     ensures { λ r. ⌜ part-due (due-of (Due.First op)) ≡ Some (owed r) ⌝ }
 {
@@ -47,6 +48,7 @@ fn first_part(op: Op) -> Part
     }
 }
 
+/// The second part of a bracket, if its head has one.
 fn second_part(op: Op) -> Option<Part>
     ensures { λ r. ⌜ part-due (due-of (Due.Second op)) ≡ map-some owed r ⌝ }
 {
@@ -71,7 +73,7 @@ fn second_part(op: Op) -> Option<Part>
     }
 }
 
-// The part that is due, and what is due after it.
+/// The part that is due, and what is due after it.
 fn part_of(d: Due) -> Option<Part>
     ensures { λ r. ⌜ part-due (due-of d) ≡ map-some owed r ⌝ }
 {
@@ -82,7 +84,7 @@ fn part_of(d: Due) -> Option<Part>
     }
 }
 
-// The node of a bracket that may close.
+/// The node of a bracket that may close.
 fn node_of(d: Due) -> Option<Node>
     ensures { λ r. ⌜ closes (due-of d) ≡ map-some shape r ⌝ }
 {
@@ -93,7 +95,7 @@ fn node_of(d: Due) -> Option<Node>
     }
 }
 
-// What is due after a head word.
+/// What is due after a head word of that kind.
 fn head_of(kind: Kind, w: &[u8]) -> Option<Due>
     ensures { λ r. ⌜ head-due kind (now (w .entry)) ≡ map-some due-of r ⌝ }
 {
@@ -103,6 +105,7 @@ fn head_of(kind: Kind, w: &[u8]) -> Option<Due>
     }
 }
 
+/// What is due after the head word of a policy.
 fn policy_head(w: &[u8]) -> Option<Due>
     ensures { λ r. ⌜ head-due Kind.Policy (now (w .entry)) ≡ map-some due-of r ⌝ }
 {
@@ -117,6 +120,7 @@ fn policy_head(w: &[u8]) -> Option<Due>
     }
 }
 
+/// What is due after the head word of a predicate.
 fn predicate_head(w: &[u8]) -> Option<Due>
     ensures { λ r. ⌜ head-due Kind.Predicate (now (w .entry)) ≡ map-some due-of r ⌝ }
 {
@@ -139,6 +143,7 @@ fn predicate_head(w: &[u8]) -> Option<Due>
 }
 
 impl State {
+    /// Nothing has been read.
     pub fn new() -> State
         ensures { λ r. ⌜ reading r ≡ start ⌝ }
     {
@@ -150,6 +155,7 @@ impl State {
         }
     }
 
+    /// An opening bracket: the line's form, or a part that is due.
     pub fn open(&mut self) -> Result<(), ReaderCause>
         ensures { λ r. ⌜ opening (reading (now (self .entry))) ≡ answered r (reading (now (self .exit))) ⌝ }
     {
@@ -171,6 +177,7 @@ impl State {
         }
     }
 
+    /// A line end, outside brackets only.
     pub fn line_end(&mut self) -> Result<(), ReaderCause>
         ensures { λ r. ⌜ line-ending (reading (now (self .entry))) ≡ answered r (reading (now (self .exit))) ⌝ }
     {
@@ -181,6 +188,7 @@ impl State {
         Ok(())
     }
 
+    /// A closing bracket, which makes its node.
     pub fn close(&mut self) -> Result<(), ReaderCause>
         ensures { λ r. ⌜ closing (reading (now (self .entry))) ≡ answered r (reading (now (self .exit))) ⌝ }
     {
@@ -197,7 +205,7 @@ impl State {
         self.end_form()
     }
 
-    // The last bracket of a form has closed: the form is joined to the forms before it.
+    /// The last bracket of a form has closed: the form is joined to the forms before it.
     fn end_form(&mut self) -> Result<(), ReaderCause>
         requires { ⌜ newest (now self .brackets) ≡ [] ⌝ }
         ensures { λ r. ⌜ closed (reading (now (self .entry))) (reading (now (self .entry)) .nodes) [] ≡ answered r (reading (now (self .exit))) ⌝ }
@@ -210,6 +218,7 @@ impl State {
         Ok(())
     }
 
+    /// A word, for the innermost bracket.
     pub fn word(&mut self, w: &[u8]) -> Result<(), ReaderCause>
         ensures { λ r. ⌜ wording (reading (now (self .entry))) (now (w .entry)) ≡ answered r (reading (now (self .exit))) ⌝ }
     {
@@ -222,6 +231,7 @@ impl State {
     }
 }
 
+/// Adds a node unless 64 are there.
 fn add_node(nodes: &mut Bounded<Node, 64>, n: Node) -> Result<(), ReaderCause>
     ensures { λ r. ⌜ grown (shape n) (map shape (newest (now (nodes .entry)))) ≡ answered r (map shape (newest (now (nodes .exit)))) ⌝ }
 {
@@ -232,7 +242,7 @@ fn add_node(nodes: &mut Bounded<Node, 64>, n: Node) -> Result<(), ReaderCause>
     }
 }
 
-// What is due after a word.
+/// What is due after a word.
 fn filled(d: Due, w: &[u8]) -> Result<Due, ReaderCause>
     ensures { λ r. ⌜ fill (due-of d) (now (w .entry)) ≡ map-ok due-of r ⌝ }
 {
@@ -254,6 +264,7 @@ fn filled(d: Due, w: &[u8]) -> Result<Due, ReaderCause>
     }
 }
 
+/// A send's ports with one port more; a ninth is an extra word.
 fn with_port(mut ports: Ports, w: &[u8]) -> Result<Due, ReaderCause>
     ensures { λ r. ⌜ fill (due-of (Due.Ports ports)) (now (w .entry)) ≡ map-ok due-of r ⌝ }
 {

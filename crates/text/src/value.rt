@@ -4,7 +4,7 @@ ghost use Prim.Native.Nat.{_≤_, _<_};
 ghost use Rattle.std.specs.Options.{Cases as BySome};
 ghost use Rattle.packet.specs.Fields.{width as bits-of};
 ghost use Rattle.text.specs.Cuts.{map-cut};
-ghost use Rattle.text.specs.Values.{numeral, at-most, digits, nibble, hardware, cut, quad, cut-off, network, full, full-value, test-from};
+ghost use Rattle.text.specs.Values.{numeral, at-most, digit, digits, nibble, hardware, cut, quad, cut-off, network, full, full-value, test-from};
 use packet::Field;
 use packet::Test;
 
@@ -19,17 +19,27 @@ pub fn number_of(word: &[u8], limit: u16) -> Option<u16>
     }
 }
 
+/// A digit 0 to 9.
+fn digit_of(b: u8) -> Option<u32>
+    ensures { λ r. ⌜ r ≡ digit b ⌝ }
+{
+    match b {
+        b'0'..=b'9' => Some(u32::from(b - b'0')),
+        _ => None,
+    }
+}
+
+/// The number of a row of digits, or none where it is past the limit.
 fn digits_of(word: &[u8], limit: u16) -> Option<u16>
-    ensures { λ r. ⌜ r ≡ at-most limit (digits 0 (now (word .entry))) ⌝ }
+    ensures { λ r. ⌜ r ≡ at-most limit (digits 10 digit 0 (now (word .entry))) ⌝ }
 {
     let most = u32::from(limit);
     let mut n: u32 = 0;
     for b in word {
-        let digit = match *b {
-            b'0'..=b'9' => *b - b'0',
-            _ => return None,
-        };
-        n = n * 10 + u32::from(digit);
+        match digit_of(*b) {
+            Some(d) => n = n * 10 + d,
+            None => return None,
+        }
         if n > most {
             return None;
         }
@@ -37,6 +47,7 @@ fn digits_of(word: &[u8], limit: u16) -> Option<u16>
     Some(n as u16)
 }
 
+/// A digit 0 to 9 or a to f.
 fn nibble_of(b: u8) -> Option<u64>
     ensures { λ r. ⌜ r ≡ nibble b ⌝ }
 {
@@ -47,7 +58,7 @@ fn nibble_of(b: u8) -> Option<u64>
     }
 }
 
-// A hardware address: 12 digits 0 to f.
+/// A hardware address: 12 digits 0 to f.
 fn hardware_of(word: &[u8]) -> Option<u64>
     ensures { λ r. ⌜ r ≡ hardware (now (word .entry)) ⌝ }
 {
@@ -64,13 +75,14 @@ fn hardware_of(word: &[u8]) -> Option<u64>
     Some(n)
 }
 
+/// The two sides of a cut.
 #[derive(Copy)]
 struct Pair<'a> {
     front: &'a [u8],
     back: &'a [u8],
 }
 
-// What stands before and after the first byte `mark`.
+/// What stands before and after the first byte `mark`.
 fn cut_at<'a>(word: &'a [u8], mark: u8) -> Option<Pair<'a>>
     ensures { λ r. ⌜ cut mark (now (word .entry)) ≡ map-cut r ⌝ }
 {
@@ -85,6 +97,7 @@ fn cut_at<'a>(word: &'a [u8], mark: u8) -> Option<Pair<'a>>
     None
 }
 
+/// A number 0 to 255.
 fn octet_of(word: &[u8]) -> Option<u32>
     ensures is { λ r. ⌜ r ≡ numeral 255 (now (word .entry)) ⌝ }
     ensures small { λ r. ⌜ BySome r (Unit {0}) (λ n. n < 256) ⌝ }
@@ -95,7 +108,7 @@ fn octet_of(word: &[u8]) -> Option<u32>
     }
 }
 
-// Four numbers with points between them.
+/// Four numbers with points between them.
 fn quad_of(word: &[u8]) -> Option<u32>
     ensures { λ r. ⌜ r ≡ quad (now (word .entry)) ⌝ }
 {
@@ -109,7 +122,7 @@ fn quad_of(word: &[u8]) -> Option<u32>
     Some(((i * 256 + j) * 256 + k) * 256 + l)
 }
 
-// The test of an address to a length, unless a bit past the length is set.
+/// The test of an address to a length, unless a bit past the length is set.
 fn to_length(field: Field, n: u32, length: u8) -> Option<Test>
     requires { ⌜ length ≤ bits-of field ⌝ }
     ensures { λ r. ⌜ r ≡ cut-off field n length ⌝ }
@@ -122,6 +135,7 @@ fn to_length(field: Field, n: u32, length: u8) -> Option<Test>
     }
 }
 
+/// How many first bits of a field count.
 fn length_of(field: Field, word: &[u8]) -> Option<u8>
     ensures is { λ r. ⌜ r ≡ numeral (bits-of field) (now (word .entry)) ⌝ }
     ensures small { λ r. ⌜ BySome r (Unit {0}) (λ n. n ≤ bits-of field) ⌝ }
@@ -132,6 +146,7 @@ fn length_of(field: Field, word: &[u8]) -> Option<u8>
     }
 }
 
+/// The test of an address, alone or with a stroke and a length.
 fn network_of(field: Field, word: &[u8]) -> Option<Test>
     ensures { λ r. ⌜ r ≡ network field (now (word .entry)) ⌝ }
 {
@@ -145,6 +160,7 @@ fn network_of(field: Field, word: &[u8]) -> Option<Test>
     }
 }
 
+/// The test of a field's whole number, where the field has room for it.
 fn whole(field: Field, value: Option<u64>) -> Option<Test>
     ensures { λ r. ⌜ r ≡ full field value ⌝ }
 {
@@ -154,6 +170,7 @@ fn whole(field: Field, value: Option<u64>) -> Option<Test>
     }
 }
 
+/// A number 0 to 65535.
 fn wide_number(word: &[u8]) -> Option<u64>
     ensures { λ r. ⌜ r ≡ numeral 65535 (now (word .entry)) ⌝ }
 {
@@ -163,7 +180,7 @@ fn wide_number(word: &[u8]) -> Option<u64>
     }
 }
 
-// The test of a field that a word writes.
+/// The test of a field that a word writes.
 pub fn test_of(field: Field, word: &[u8]) -> Option<Test>
     ensures { λ r. ⌜ r ≡ test-from field (now (word .entry)) ⌝ }
 {

@@ -1,4 +1,4 @@
-use borrow.Author.Needs.{needs}
+-- Each item reads on; a fault has the place of its item.
 use native.Mathlib.Omega.{arith}
 use mathlib.Core.Path.{_≡_, ap, sym, _∙_}
 use mathlib.Core.Bool.{cond}

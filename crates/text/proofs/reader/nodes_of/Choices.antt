@@ -1,3 +1,4 @@
+-- What is left of the text, read on from the place and the state so far, gives what the text gives.
 use Prim.Native.Nat.{_-_, _+_, _≤_}
 use mathlib.Core.Path.{_≡_}
 use lib.ListN.{length, drop}

@@ -6,7 +6,7 @@ use Rattle.std.proofs.shelf.Results.{err-from-errBy}
 use Rattle.policy.specs.Roots.{shapes-of}
 use Rattle.text.specs.Text.{read-text}
 use Rattle.text.specs.View.{shapes-in}
-use Rattle.text.proofs.Answering.{makes-policy, refused, writes-nothing, written}
+use Rattle.text.proofs.Answering.{makes-policy, reads-as, refused, writes-nothing}
 use Rattle.text.proofs.reader.read.Needs as need
 
 pub returns-in-Break-nodes : need.returns-in-Break-nodes
@@ -24,4 +24,4 @@ unreachable-requires c κs =
 pub returns : need.returns
 returns c =
     let is : read-text (c .args .text .now) ≡ Ok (shapes-of (c .in-Some .policy)) = sym (c .in-Continue-nodes .ensures tt) ∙ ap Ok (sym (c .in-Some .ensures tt)) in
-    record { answer = is; grammar = written (c .args .text .now) (c .in-Some .policy) is }
+    record { answer = is; grammar = reads-as (c .args .text .now) (c .in-Some .policy) is }

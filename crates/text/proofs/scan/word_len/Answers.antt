@@ -1,4 +1,4 @@
-use borrow.Author.Needs.{needs}
+-- A byte of a word lengthens the run, and any other ends it.
 use native.Mathlib.Omega.{arith}
 use Rattle.std.proofs.shelf.Lists.{at-drop-all}
 use mathlib.Core.Path.{_≡_}

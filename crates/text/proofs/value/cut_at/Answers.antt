@@ -1,9 +1,7 @@
-use borrow.Author.Needs.{needs}
+-- A byte that is not the mark goes in front; the mark cuts.
 use native.Mathlib.Omega.{arith}
-use mathlib.Core.Path.{_≡_, ap, sym, _∙_}
-use mathlib.Core.List.{List}
-use Prim.Native.Nat.{_+_, _-_}
-use lib.ListN.{take, drop}
+use mathlib.Core.Path.{sym, _∙_}
+use lib.ListN.{take}
 use native.Mathlib.Nat.{sub-zero}
 use Rattle.std.proofs.shelf.Lists.{at-drop-all, take-rest}
 use Rattle.text.specs.Values.{cut}

@@ -1,3 +1,4 @@
+-- The cut of the word is that of what is left, with what has been passed in front.
 use mathlib.Core.Path.{_≡_}
 use lib.ListN.{take, drop}
 use Rattle.text.specs.Values.{cut}

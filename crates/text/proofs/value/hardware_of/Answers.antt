@@ -1,13 +1,14 @@
+-- Each digit reads on, and twelve of them fit 48 bits.
 use borrow.Author.Needs.{needs}
 use native.Mathlib.Omega.{arith}
-use mathlib.Core.Path.{_≡_, ap, sym, _∙_}
+use mathlib.Core.Path.{sym, _∙_}
 use Prim.Native.Nat.{_<_, _^_}
 use lib.ListN.{getD}
 use Rattle.std.proofs.shelf.Lists.{at-drop-all}
 use Rattle.std.proofs.shelf.Tests.{cond-true, eq-eqb}
-use Rattle.std.specs.declared.option.Option.the-variants.{Some, None}
-use Rattle.text.specs.Values.{nibbles}
-use Rattle.text.proofs.Hex.{hex-more, hex-small, nibble-small, nibbles-more, nibbles-bad}
+use Rattle.std.specs.declared.option.Option.the-variants.{None}
+use Rattle.text.specs.Values.{digits, nibble}
+use Rattle.text.proofs.Digits.{hex-more, hex-small, nibble-small, digits-more, digits-bad}
 use Rattle.text.proofs.value.hardware_of.Needs as need
 
 pub mul-n : need.mul-n
@@ -20,16 +21,16 @@ add-n c =
 
 pub returns-in-None : need.returns-in-None
 returns-in-None c =
-    sym (nibbles-bad (c .loop-b .n) (c .loop-b .b-index) (c .args .word .now) (c .loop-b-test .taken) (sym (c .in-None .ensures tt)))
-    ∙ (c .loop-b .inv .1 ∙ sym (cond-true _ (nibbles 0 (c .args .word .now)) None (eq-eqb _ _ (c .if-word-ne12 .left))))
+    sym (digits-bad 16 nibble (c .loop-b .n) (c .loop-b .b-index) (c .args .word .now) (c .loop-b-test .taken) (sym (c .in-None .ensures tt)))
+    ∙ (c .loop-b .inv .1 ∙ sym (cond-true _ (digits 16 nibble 0 (c .args .word .now)) None (eq-eqb _ _ (c .if-word-ne12 .left))))
 
 pub loop-b-again : need.loop-b-again
 loop-b-again c = (
   hex-more _ _ _ (c .loop-b .inv .0) (nibble-small (getD (c .args .word .now) (c .loop-b .b-index) 0) (c .in-Some .d) (sym (c .in-Some .ensures tt))),
-  sym (nibbles-more (c .loop-b .n) (c .in-Some .d) (c .loop-b .b-index) (c .args .word .now) (c .loop-b-test .taken) (sym (c .in-Some .ensures tt))) ∙ c .loop-b .inv .1,
+  sym (digits-more 16 nibble (c .loop-b .n) (c .loop-b .b-index) (c .args .word .now) (c .loop-b-test .taken) (c .in-Some .d) (sym (c .in-Some .ensures tt))) ∙ c .loop-b .inv .1,
 )
 
 pub returns : need.returns
 returns c =
-    sym (at-drop-all (nibbles (c .loop-b .n)) (c .args .word .now) (c .loop-b .b-index) (c .loop-b-test .left))
-    ∙ (c .loop-b .inv .1 ∙ sym (cond-true _ (nibbles 0 (c .args .word .now)) None (eq-eqb _ _ (c .if-word-ne12 .left))))
+    sym (at-drop-all (digits 16 nibble (c .loop-b .n)) (c .args .word .now) (c .loop-b .b-index) (c .loop-b-test .left))
+    ∙ (c .loop-b .inv .1 ∙ sym (cond-true _ (digits 16 nibble 0 (c .args .word .now)) None (eq-eqb _ _ (c .if-word-ne12 .left))))

@@ -1,8 +1,9 @@
-use Prim.Native.Nat.{_<_, _^_, _*_}
+-- What is left of the digits, read on from the number so far, gives the whole number.
+use Prim.Native.Nat.{_<_, _^_}
 use mathlib.Core.Path.{_≡_}
-use lib.ListN.{length, drop}
-use Rattle.text.specs.Values.{nibbles}
+use lib.ListN.{drop}
+use Rattle.text.specs.Values.{digits, nibble}
 use Rattle.text.proofs.value.hardware_of.Given as given
 
 abbrev pub Inv-loop-b : given.InvT-loop-b
-Inv-loop-b l = (l .n < 16 ^ (l .b-index)) × (nibbles (l .n) (drop (l .b-index) (l .word)) ≡ nibbles 0 (l .word))
+Inv-loop-b l = (l .n < 16 ^ (l .b-index)) × (digits 16 nibble (l .n) (drop (l .b-index) (l .word)) ≡ digits 16 nibble 0 (l .word))

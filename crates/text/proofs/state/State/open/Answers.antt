@@ -1,10 +1,9 @@
 -- A bracket opens a line's form, or a part that is due.
 use native.Mathlib.Omega.{arith}
 use mathlib.Core.Path.{_≡_, ap, _∙_}
-use mathlib.Core.List.{map, _∷_, []}
+use mathlib.Core.List.{map, _∷_}
 use lib.ListN.{length}
 use Rattle.policy.specs.declared.node.Kind.the-variants.{Policy}
-use Rattle.packet.specs.Items.{items-of}
 use Rattle.text.specs.Dues.{due-of}
 use Rattle.text.specs.Dues.Due.{d-head}
 use Rattle.text.specs.Newest.{newest}

@@ -1,12 +1,8 @@
 -- A word changes what the innermost bracket waits for.
-use native.Mathlib.Omega.{arith}
 use mathlib.Core.Path.{ap, sym, _∙_}
-use mathlib.Core.List.{map, _∷_}
-use Prim.Native.Nat.{_<_}
-use lib.ListN.{length}
-use Rattle.std.specs.declared.result.Result.the-variants.{Ok}
+use mathlib.Core.List.{map}
+use Rattle.std.specs.declared.result.Result.the-variants.{Ok, Err}
 use Rattle.std.proofs.shelf.Results.{err-from-errBy}
-use Rattle.packet.specs.Items.{items-of}
 use Rattle.text.specs.Dues.{due-of}
 use Rattle.text.specs.Newest.{newest}
 use Rattle.text.specs.Steps.{with-brackets}
@@ -25,7 +21,7 @@ returns-in-Break-next c =
     let s = c .args .self .now in
     let left = c .pop .last .self in
     let p = err-from-errBy (c .from-residual .result) (c .from-residual .ensures .1) in
-    rw (p .1, p .2) (word-with (reading s) (due-of (c .in-Some .d)) (newest left) (ap (map due-of) (newest-pop (s .brackets) left (c .in-Some .d) (c .in-Some .ensures tt))) _ _ (c .in-Break-next .ensures tt))
+    rw (p .1, p .2) (word-with (reading s) (due-of (c .in-Some .d)) (newest left) (ap (map due-of) (newest-pop (s .brackets) left (c .in-Some .d) (c .in-Some .ensures tt))) _ (Err (c .in-Break-next .field-0 .0)) (c .in-Break-next .ensures tt))
 
 pub returns : need.returns
 returns c =
