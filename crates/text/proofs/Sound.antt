@@ -17,7 +17,7 @@ use Rattle.policy.specs.declared.node.Kind.the-variants.{Predicate, Policy}
 use Rattle.text.specs.declared.due.Op.the-variants.{And, Or, Not, Send, Both, Keep}
 use Rattle.packet.specs.declared.field.Field.{Field}
 use Rattle.text.specs.Heads.{name}
-use Rattle.text.specs.Values.{numeral, port-from, test-from}
+use Rattle.text.specs.Values.{sixteen-bits, port-from, test-from}
 use Rattle.policy.specs.Shapes.{Shape}
 use Rattle.policy.specs.Shapes.Shape.{n-any, n-at, n-is, n-and, n-or, n-not, n-send, n-both, n-keep}
 use Rattle.text.specs.Dues.{Due}
@@ -71,7 +71,7 @@ module _ (f j : Bool) (ds : List Due) (ns out : List Shape) where
   at-found w e l (by-open p q h g) = absurd (none-some q)
   at-found w e l (by-close n q h g) = absurd (none-some q)
   at-found w e l (by-word {ts} {w = v} y q g) =
-      let t = taken (numeral 65535 v) (λ x. d-close (n-at x)) y q in
+      let t = taken (sixteen-bits v) (λ x. d-close (n-at x)) y q in
       pred-of (at (t .0)) (in-at e (t .1)) (omega arith) (omega arith) (subst (λ x. run (st f j (x ∷ ds) ns) ts ≡ Ok out) (sym (t .2)) g)
 
   is-found : {ts : List Sign} (w : List ℕ) (i : Field) → w ≡ name i → length ds ≤ 15 → First f j (d-value i) ds ns out ts → Pred-found f j ds ns out (s-word w ∷ ts)

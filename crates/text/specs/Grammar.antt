@@ -14,7 +14,7 @@ use Rattle.policy.specs.Trees.{Pred, Pol}
 use Rattle.policy.specs.Trees.Pred.{any, at, test, and, or, not}
 use Rattle.policy.specs.Trees.Pol.{send, both, keep}
 use Rattle.text.specs.Heads.{name}
-use Rattle.text.specs.Values.{numeral, port-from, test-from}
+use Rattle.text.specs.Values.{sixteen-bits, port-from, test-from}
 use Rattle.text.specs.Numbered.{numbered}
 use Rattle.text.specs.Text.{Token, t-open, t-close, t-space, t-line, t-other, t-word, tokens}
 
@@ -35,7 +35,7 @@ signs (t-word w ∷ ts) = s-word w ∷ signs ts
 -- Pred-in p ts us: the inside of a bracket that writes p stands at the front of ts, and us is what follows, from its closing bracket on
 pub data Pred-in : Pred → List Sign → List Sign → Type 0 where
   in-any : {w : List ℕ} {us : List Sign} → w ≡ codes "any" → Pred-in any (s-word w ∷ us) us
-  in-at : {w v : List ℕ} {n : ℕ} {us : List Sign} → w ≡ codes "at" → numeral 65535 v ≡ Some n → Pred-in (at n) (s-word w ∷ s-word v ∷ us) us
+  in-at : {w v : List ℕ} {n : ℕ} {us : List Sign} → w ≡ codes "at" → sixteen-bits v ≡ Some n → Pred-in (at n) (s-word w ∷ s-word v ∷ us) us
   in-test : {w v : List ℕ} (f : Field) {t : Test} {us : List Sign} → w ≡ name f → test-from f v ≡ Some t → Pred-in (test t) (s-word w ∷ s-word v ∷ us) us
   in-and : {w : List ℕ} {a b : Pred} {ts us vs : List Sign} → w ≡ codes "and" → Pred-in a ts (s-close ∷ s-open ∷ us) → Pred-in b us (s-close ∷ vs) → Pred-in (and a b) (s-word w ∷ s-open ∷ ts) vs
   in-or : {w : List ℕ} {a b : Pred} {ts us vs : List Sign} → w ≡ codes "or" → Pred-in a ts (s-close ∷ s-open ∷ us) → Pred-in b us (s-close ∷ vs) → Pred-in (or a b) (s-word w ∷ s-open ∷ ts) vs

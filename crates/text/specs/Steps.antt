@@ -23,7 +23,7 @@ use Rattle.text.specs.Dues.{Due}
 use Rattle.text.specs.Dues.Due.{d-head, d-switch, d-value, d-first, d-second, d-ports, d-close}
 use Rattle.packet.specs.PortLists.{placed}
 use Rattle.text.specs.Heads.{named-field}
-use Rattle.text.specs.Values.{numeral, port-from, test-from}
+use Rattle.text.specs.Values.{sixteen-bits, port-from, test-from}
 
 -- a reading under way: what each open bracket waits for and the nodes made, the newest first,
 -- whether this line has its form, and whether a form has closed before, so that the next is joined to it
@@ -119,7 +119,7 @@ map-some f (Some a) = Some (f a)
 -- a word inside a bracket
 abbrev pub fill : Due → List ℕ → Result Due ReaderCause
 fill (d-head s) w = or-wrong Head (head-due s w)
-fill d-switch w = and-then (or-wrong Value (numeral 65535 w)) (λ n. Ok (d-close (n-at n)))
+fill d-switch w = and-then (or-wrong Value (sixteen-bits w)) (λ n. Ok (d-close (n-at n)))
 fill (d-value f) w = and-then (or-wrong Value (test-from f w)) (λ t. Ok (d-close (n-is t)))
 fill (d-first o) w = Err Word
 fill (d-second o) w = Err Word

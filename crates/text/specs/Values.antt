@@ -45,6 +45,10 @@ at-most limit (Some n) = cond (leb n limit) (Some n) None
 abbrev pub numeral : ℕ → List ℕ → Option ℕ
 numeral limit w = at-most limit (decimal w)
 
+-- a number of 16 bits
+abbrev pub sixteen-bits : List ℕ → Option ℕ
+sixteen-bits w = numeral 65535 w
+
 -- a decimal that is a port of a switch
 abbrev pub port-from : List ℕ → Option ℕ
 port-from w = and-some (numeral 255 w) (λ n. cond (is-port n) (Some n) None)
@@ -94,12 +98,12 @@ full f o = and-some o (λ n. tested f n (width f))
 abbrev pub test-from : Field → List ℕ → Option Test
 test-from DlSrc w = full DlSrc (hardware w)
 test-from DlDst w = full DlDst (hardware w)
-test-from DlTyp w = full DlTyp (numeral 65535 w)
+test-from DlTyp w = full DlTyp (sixteen-bits w)
 test-from NwSrc w = network NwSrc w
 test-from NwDst w = network NwDst w
-test-from NwProto w = full NwProto (numeral 65535 w)
-test-from TpSrc w = full TpSrc (numeral 65535 w)
-test-from TpDst w = full TpDst (numeral 65535 w)
+test-from NwProto w = full NwProto (sixteen-bits w)
+test-from TpSrc w = full TpSrc (sixteen-bits w)
+test-from TpDst w = full TpDst (sixteen-bits w)
 
 -- the value of a test of a field's whole width
 abbrev pub full-value : Field → Option Test → Option ℕ

@@ -4,7 +4,7 @@ ghost use Prim.Native.Nat.{_≤_, _<_};
 ghost use Rattle.std.specs.Options.{Cases as BySome};
 ghost use Rattle.packet.specs.Fields.{width as bits-of};
 ghost use Rattle.text.specs.Cuts.{map-cut};
-ghost use Rattle.text.specs.Values.{numeral, at-most, digit, digits, nibble, hardware, cut, quad, cut-off, network, full, full-value, test-from};
+ghost use Rattle.text.specs.Values.{numeral, at-most, digit, digits, nibble, hardware, cut, quad, cut-off, network, full, full-value, sixteen-bits, test-from};
 use packet::Field;
 use packet::Test;
 
@@ -172,7 +172,7 @@ fn whole(field: Field, value: Option<u64>) -> Option<Test>
 
 /// A number 0 to 65535.
 fn wide_number(word: &[u8]) -> Option<u64>
-    ensures { λ r. ⌜ r ≡ numeral 65535 (now (word .entry)) ⌝ }
+    ensures { λ r. ⌜ r ≡ sixteen-bits (now (word .entry)) ⌝ }
 {
     match number_of(word, 65535) {
         Some(n) => Some(u64::from(n)),
