@@ -41,7 +41,7 @@ module _ (f : Fault) where
   unfolding read-text
   refused text p e =
       let st = stops f 1 0 _ (tokens text) e in
-      let o = subst Ours (sym (st .placed)) (ours (st .at-line) (st .at-byte) (st .cause)) in
+      let o = subst Ours (sym (st .is)) (ours (st .at-line) (st .at-byte) (st .cause)) in
       record { first = e; stops = st; lowest = o .0; highest = o .1; unchanged = refl }
 
   pub writes-nothing : (text : List ℕ) → read-text text ≡ Err f → (q : Pol) → Writes text q → ⊥

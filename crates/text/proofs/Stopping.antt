@@ -33,7 +33,7 @@ module _ (f : Fault) where
     at-line = line;
     at-byte = byte;
     cause = w;
-    placed = let k : fault line byte w ≡ f = cc in sym k;
+    is = let k : fault line byte w ≡ f = cc in sym k;
     line-is = omega arith;
     byte-is = omega arith;
     fine = fine-end line byte s;
@@ -51,7 +51,7 @@ module _ (f : Fault) where
         at-line = st .at-line;
         at-byte = st .at-byte;
         cause = st .cause;
-        placed = st .placed;
+        is = st .is;
         line-is = omega (arith, st .line-is);
         byte-is = omega (arith, st .byte-is);
         fine = subst (λ x. Nothing-wrong (st .at-line) (st .at-byte) x) (sym (through (st .before))) (st .fine);
@@ -72,7 +72,7 @@ module _ (f : Fault) where
     at-line = line;
     at-byte = byte;
     cause = w;
-    placed = let k : fault line byte w ≡ f = cc in sym k;
+    is = let k : fault line byte w ≡ f = cc in sym k;
     line-is = omega arith;
     byte-is = omega arith;
     fine = fine-end line byte s;

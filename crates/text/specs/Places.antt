@@ -38,7 +38,7 @@ pub record Stops (line byte : ℕ) (s : Reading) (items : List Token) (f : Fault
   pub at-line : ℕ
   pub at-byte : ℕ
   pub cause : ReaderCause
-  pub placed : f ≡ fault at-line at-byte cause
+  pub is : f ≡ fault at-line at-byte cause
   pub line-is : at-line ≡ line + ends-in before
   pub byte-is : at-byte ≡ byte + bytes-in before
   pub fine : Nothing-wrong at-line at-byte (read-on line byte s before)
