@@ -1,3 +1,4 @@
+-- Each turn adds the port's word once more.
 use mathlib.Core.Path.{_≡_, ap, _∙_}
 use mathlib.Core.List.{_++_}
 use native.Mathlib.Omega.{arith}

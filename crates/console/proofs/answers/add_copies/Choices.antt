@@ -1,3 +1,4 @@
+-- What the list holds after some copies.
 use mathlib.Core.Path.{_≡_}
 use mathlib.Core.List.{_++_}
 use Rattle.std.specs.Of.String.{string-bytes}

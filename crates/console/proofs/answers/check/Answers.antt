@@ -1,3 +1,4 @@
+-- The nodes that are counted are those of the tree that the text writes.
 use mathlib.Core.Path.{_≡_, sym, ap, _∙_}
 use lib.ListN.{length}
 use Rattle.std.proofs.shelf.Lists.{length-map}

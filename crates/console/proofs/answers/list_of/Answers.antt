@@ -1,3 +1,4 @@
+-- Each turn adds one port, and at the end all are listed.
 use mathlib.Core.Path.{_≡_, ap, _∙_}
 use mathlib.Core.List.{_++_}
 use Prim.Native.Nat.{_+_}

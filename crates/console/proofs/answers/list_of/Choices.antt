@@ -1,3 +1,4 @@
+-- What is listed, with the ports that are left, is the whole list.
 use mathlib.Core.Path.{_≡_}
 use mathlib.Core.List.{_++_}
 use Prim.Native.Nat.{_+_}

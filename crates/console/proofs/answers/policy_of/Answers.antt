@@ -1,3 +1,4 @@
+-- A text that is refused writes no policy.
 use mathlib.Core.Path.{sym, subst}
 use Rattle.policy.specs.Trees.{Pol}
 use Rattle.text.specs.Grammar.{Writes}

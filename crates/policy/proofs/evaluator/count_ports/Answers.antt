@@ -1,3 +1,4 @@
+-- Each turn raises the count of one port, 1 to 48, and no count overflows.
 use mathlib.Core.Path.{sym, ap, _∙_}
 use native.Mathlib.Omega.{arith}
 use Prim.Native.Nat.{_+_, _-_}

@@ -1,3 +1,4 @@
+-- Each count is what it was and the times that its port has come up.
 use Prim.Native.Nat.{ℕ, _+_, _<_}
 use mathlib.Core.Path.{_≡_}
 use lib.ListN.{length, getD, take}

@@ -1,3 +1,4 @@
+-- Each turn adds the counts of one send.
 use mathlib.Core.Path.{sym, ap, _∙_}
 use mathlib.Core.List.{map}
 use native.Mathlib.Omega.{arith}

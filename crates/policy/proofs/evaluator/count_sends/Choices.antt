@@ -1,3 +1,4 @@
+-- Each count is the tally of the sends so far.
 use Prim.Native.Nat.{ℕ, _+_, _<_}
 use mathlib.Core.Path.{_≡_}
 use lib.ListN.{length, getD, take}

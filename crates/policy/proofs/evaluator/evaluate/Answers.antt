@@ -1,3 +1,4 @@
+-- At the end the walk holds the sends of the root that count, and their tally is the policy's copies.
 use mathlib.Core.Path.{_≡_, sym, ap, _∙_}
 use mathlib.Core.List.{map}
 use Prim.Native.Nat.{_+_, _≤_}

@@ -1,3 +1,4 @@
+-- The walk stands for the trees that the nodes so far leave untaken.
 use mathlib.Core.List.{map}
 use Rattle.packet.specs.Written.{written}
 use Rattle.policy.specs.Shapes.{shape}

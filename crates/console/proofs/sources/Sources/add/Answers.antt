@@ -1,3 +1,4 @@
+-- The file's bytes are added, and a line end where they have none.
 use mathlib.Core.Path.{_≡_, refl, sym, ap, _∙_}
 use mathlib.Core.Bool.{true, false, cond}
 use mathlib.Core.List.{[], _∷_, _++_, append-assoc}

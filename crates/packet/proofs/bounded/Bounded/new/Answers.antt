@@ -1,3 +1,4 @@
+-- The array has its length, and holds no item.
 use native.Mathlib.Omega.{arith}
 use lib.ListN.{length-replicate}
 use Rattle.packet.proofs.bounded.Bounded.new.Needs as need

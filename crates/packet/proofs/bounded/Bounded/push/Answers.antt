@@ -1,3 +1,4 @@
+-- A push is refused where the list is full, and else the item stands last.
 use mathlib.Core.Path.{refl}
 use native.Mathlib.Omega.{arith}
 use lib.ListN.{length-take}

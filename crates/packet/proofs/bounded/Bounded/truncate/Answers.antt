@@ -1,3 +1,4 @@
+-- What is left are the first items.
 use mathlib.Core.Path.{sym}
 use native.Mathlib.Omega.{arith}
 use lib.ListN.{length-take}

@@ -1,3 +1,4 @@
+-- The words of each cause are those of the definition.
 use mathlib.Core.Path.{sym, ap}
 use Rattle.packet.specs.Telling.{builder-meaning}
 use Rattle.packet.proofs.fault.BuilderCause.meaning.Needs as need

@@ -1,3 +1,4 @@
+-- The words of the one cause are those of the definition.
 use mathlib.Core.Path.{_≡_, refl}
 use Rattle.packet.specs.Telling.{host-meaning}
 use Rattle.packet.specs.declared.fault.HostCause.{HostCause}

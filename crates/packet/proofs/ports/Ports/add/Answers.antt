@@ -1,3 +1,4 @@
+-- The longer list is one of ports, in rising order.
 use mathlib.Core.Path.{_≡_, ap, _∙_}
 use mathlib.Core.Bool.{true}
 use native.Mathlib.Omega.{arith}

@@ -1,3 +1,4 @@
+-- Each turn puts the lower of two ports down, and the highest goes last.
 use mathlib.Core.Path.{_≡_, refl, ap, sym, _∙_}
 use mathlib.Core.List.{[], _∷_, _++_}
 use native.Mathlib.Omega.{arith}

@@ -1,3 +1,4 @@
+-- The ports done, with the highest put among those left, are the longer list.
 use mathlib.Core.Path.{_≡_}
 use mathlib.Core.List.{_++_}
 use lib.ListN.{length, drop}

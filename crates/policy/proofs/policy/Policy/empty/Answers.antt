@@ -1,3 +1,4 @@
+-- The two nodes leave send of any to no ports.
 use mathlib.Core.Path.{_≡_, ap, _∙_}
 use mathlib.Core.Bool.{Bool}
 use mathlib.Core.List.{List, [], _∷_, _++_, map}

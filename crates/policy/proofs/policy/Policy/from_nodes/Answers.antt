@@ -1,3 +1,4 @@
+-- The nodes are a policy exactly where each finds its parts and one policy is left.
 use mathlib.Core.Path.{_≡_, refl, sym, ap, subst, _∙_}
 use mathlib.Core.Bool.{true, false}
 use mathlib.Core.List.{map}

@@ -1,3 +1,4 @@
+-- The kinds are those of the trees that the nodes so far leave untaken.
 use mathlib.Core.Path.{_≡_}
 use mathlib.Core.Bool.{true}
 use mathlib.Core.List.{map}

@@ -1,3 +1,4 @@
+-- Nodes that leave one policy have their parts right by number too.
 use mathlib.Core.List.{map}
 use Rattle.packet.specs.Items.{items-of}
 use Rattle.policy.specs.Shapes.{shape}

@@ -1,3 +1,4 @@
+-- The newest kinds are a node's parts exactly where it finds them.
 use mathlib.Core.Path.{_≡_, ap, sym, _∙_}
 use mathlib.Core.List.{[], _∷_, _++_}
 use Prim.Native.Nat.{_+_, _-_, _<_, _≤_}

@@ -1,3 +1,4 @@
+-- What is written of each layer's faults is the line of the definition.
 use mathlib.Core.Path.{_≡_, sym, ap, subst, _∙_}
 use mathlib.Core.List.{_++_}
 use lib.Chars.{codes}
