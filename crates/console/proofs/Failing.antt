@@ -1,16 +1,18 @@
--- A line that is told instead of an answer, or want of memory for it, is a failure of a text that writes nothing.
+-- A line that is told instead of an answer, or want of memory for it, as a failure.
 use mathlib.Core.Path.{_≡_, sym, subst}
-use mathlib.Core.List.{List}
-use Prim.Native.Nat.{ℕ}
 use Rattle.std.specs.Results.{Cases}
+use Rattle.std.specs.Vec.{made}
 use Rattle.std.specs.declared.result.Result.{Result}
 use Rattle.std.specs.declared.result.Result.the-variants.{Ok, Err}
-use Rattle.policy.specs.Trees.{Pol}
-use Rattle.text.specs.Grammar.{Writes}
-use Rattle.console.specs.Answers.{Fails}
 use Rattle.console.specs.declared.failure.Failure.{Failure}
-use Rattle.console.specs.declared.failure.Failure.the-variants.{Told, Memory}
+use Rattle.console.specs.declared.failure.Failure.the-variants.{Memory}
 
-pub told-fails : {S E T : Type 0} (tell : S → Failure) (P : T → Type 0) (text : List ℕ) (line : Result S E) (r : Result T Failure) → ((s : S) → Fails text (tell s)) → Cases line (λ s. r ≡ Err (tell s)) (λ e. r ≡ Err Memory) → Cases r P (Fails text)
-told-fails tell P text (Ok s) r none e = subst (λ x. Cases x P (Fails text)) (sym e) (none s)
-told-fails tell P text (Err e) r none q = subst (λ x. Cases x P (Fails text)) (sym q) tt
+module _ {S E T : Type 0} (tell : S → Failure) (P : T → Type 0) where
+  pub told-case : (Q : Failure → Type 0) (line : Result S E) (r : Result T Failure) → ((s : S) → Q (tell s)) → Q Memory → Cases line (λ s. r ≡ Err (tell s)) (λ e. r ≡ Err Memory) → Cases r P Q
+  told-case Q (Ok s) r told wanting e = subst (λ x. Cases x P Q) (sym e) (told s)
+  told-case Q (Err e) r told wanting q = subst (λ x. Cases x P Q) (sym q) wanting
+
+  -- the same where something is known of the line
+  pub told-known : (Q : Failure → Type 0) (K : S → Type 0) (line : Result S E) (r : Result T Failure) → made line K → ((s : S) → K s → Q (tell s)) → Q Memory → Cases line (λ s. r ≡ Err (tell s)) (λ e. r ≡ Err Memory) → Cases r P Q
+  told-known Q K (Ok s) r known told wanting e = subst (λ x. Cases x P Q) (sym e) (told s known)
+  told-known Q K (Err e) r known told wanting q = subst (λ x. Cases x P Q) (sym q) wanting

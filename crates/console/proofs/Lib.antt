@@ -1,2 +1,5 @@
 pub mod Failing
 pub mod Listing
+pub mod Typing
+pub mod Placing
+pub mod Signs

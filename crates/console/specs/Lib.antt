@@ -1,3 +1,5 @@
 pub mod Lines
 pub mod Texts
 pub mod Answers
+pub mod Words
+pub mod Typed

@@ -30,7 +30,7 @@ Several files are one text. The switch is 1 unless given. -- ends options.";
 
 /// The policy of some files.
 fn policy_of(heap: Global, sources: &Sources) -> Result<Policy, Failure>
-    ensures { λ r. ⌜ Cases r (λ p. Reads-as (text-of (now (sources .entry))) p) (λ f. Fails (text-of (now (sources .entry))) f) ⌝ }
+    ensures { λ r. ⌜ Cases r (λ p. Reads-as (text-of (now (sources .entry))) p) (λ f. Fails (now (sources .entry)) f) ⌝ }
 {
     let mut policy = Policy::empty();
     match read(&mut policy, sources.text()) {
@@ -41,7 +41,7 @@ fn policy_of(heap: Global, sources: &Sources) -> Result<Policy, Failure>
 
 /// How many nodes the policy of some files has.
 pub fn check(heap: Global, sources: &Sources) -> Result<String, Failure>
-    ensures { λ r. ⌜ Cases r (λ line. Says-nodes (text-of (now (sources .entry))) (string-bytes line)) (λ f. Fails (text-of (now (sources .entry))) f) ⌝ }
+    ensures { λ r. ⌜ Cases r (λ line. Says-nodes (text-of (now (sources .entry))) (string-bytes line)) (λ f. Fails (now (sources .entry)) f) ⌝ }
 {
     let policy = policy_of(heap, sources)?;
     let nodes = policy.nodes().len();
@@ -55,7 +55,7 @@ pub fn ports(
     switch: u16,
     packet: &Packet,
 ) -> Result<String, Failure>
-    ensures { λ r. ⌜ Cases r (λ line. Says-ports (text-of (now (sources .entry))) switch (now (packet .entry)) (string-bytes line)) (λ f. Fails (text-of (now (sources .entry))) f) ⌝ }
+    ensures { λ r. ⌜ Cases r (λ line. Says-ports (text-of (now (sources .entry))) switch (now (packet .entry)) (string-bytes line)) (λ f. Fails (now (sources .entry)) f) ⌝ }
 {
     let policy = policy_of(heap, sources)?;
     let counts = evaluate(&policy, switch, packet);

@@ -1,3 +1,6 @@
+ghost use Rattle.packet.specs.Packets.{number};
+ghost use Rattle.std.specs.Results.{Cases};
+ghost use Rattle.console.specs.Typed.{Adds, Adds-none, Describes, Refuses};
 use crate::failure::Failure;
 use crate::failure::told;
 use packet::FaultDisplay;
@@ -15,7 +18,9 @@ struct Typed {
 
 impl Typed {
     /// One word FIELD=V more.
-    fn add(&mut self, heap: Global, word: &str) -> Result<(), Failure> {
+    fn add(&mut self, heap: Global, word: &str) -> Result<(), Failure>
+        ensures { λ r. ⌜ Cases r (λ _. Adds (now (word .entry)) (now (self .entry)) (now (self .exit))) (Adds-none (now (word .entry)) (now (self .entry))) ⌝ }
+    {
         let Some((name, value)) = word.split_once('=') else {
             return told(format!(
                 heap,
@@ -39,7 +44,9 @@ impl Typed {
 }
 
 /// The packet that words FIELD=V describe; fields left out are 0.
-pub fn packet_of(heap: Global, words: &str) -> Result<Packet, Failure> {
+pub fn packet_of(heap: Global, words: &str) -> Result<Packet, Failure>
+    ensures { λ r. ⌜ Cases r (λ p. Describes (now (words .entry)) (number p)) (Refuses (now (words .entry))) ⌝ }
+{
     let mut typed = Typed {
         numbers: [0; 8],
         given: [false; 8],

@@ -1,7 +1,9 @@
 ghost use mathlib.Core.Path.{_≡_};
 ghost use mathlib.Core.List.{[], _++_};
 ghost use Rattle.std.specs.Vec.{made};
-ghost use Rattle.console.specs.Texts.{ended, ends-line, text-of};
+ghost use Rattle.std.specs.Of.String.{string-bytes};
+ghost use Rattle.packet.specs.Telling.{told};
+ghost use Rattle.console.specs.Texts.{Last-begun, Tells, beside, ended, ends-line, file-name, in-file, line-ends, starts-of, text-of};
 use crate::failure::Failure;
 use crate::failure::FailureFromAlloc;
 use crate::failure::FailureFromRefused;
@@ -53,29 +55,33 @@ impl Sources {
     }
 
     /// A fault in one line: a reader's with the file that it is in, and its place there.
-    pub fn tell(&self, heap: Global, fault: &Fault) -> Result<String, AllocError> {
+    pub fn tell(&self, heap: Global, fault: &Fault) -> Result<String, AllocError>
+        ensures { λ r. ⌜ made r (λ line. Tells (now (self .entry)) (now (fault .entry)) (string-bytes line)) ⌝ }
+    {
         match fault {
             Fault::Reader { cause, place } => {
+                let file = self.file_of(place);
                 let local = Fault::Reader {
                     cause: *cause,
-                    place: self.in_file(place),
+                    place: self.in_file(file, place),
                 };
-                self.tell_in_file(heap, local, place)
+                self.tell_in_file(heap, file, &local, place)
             }
             _ => format!(heap, "{fault}"),
         }
     }
 
+    /// A fault as told in a file, with the file's name; where there are several, with its place in the whole text.
     fn tell_in_file(
         &self,
         heap: Global,
-        local: Fault,
+        file: usize,
+        local: &Fault,
         whole: &TextPlace,
-    ) -> Result<String, AllocError> {
-        let name = match self.names.get(self.file_of(whole)) {
-            Some(name) => name.as_str(),
-            None => "no file",
-        };
+    ) -> Result<String, AllocError>
+        ensures { λ r. ⌜ made r (λ line. string-bytes line ≡ told (now (local .entry)) ++ beside (now (self .entry)) file (now (whole .entry))) ⌝ }
+    {
+        let name = self.name_of(file);
         if self.names.len() == 1 {
             return format!(heap, "{local} ({name})");
         }
@@ -87,8 +93,19 @@ impl Sources {
         )
     }
 
+    fn name_of(&self, file: usize) -> &str
+        ensures { λ r. ⌜ now r ≡ file-name (now (self .entry)) file ⌝ }
+    {
+        match self.names.get(file) {
+            Some(name) => name.as_str(),
+            None => "no file",
+        }
+    }
+
     /// The number of the file that a place is in: the last that begins there or before.
-    fn file_of(&self, place: &TextPlace) -> usize {
+    fn file_of(&self, place: &TextPlace) -> usize
+        ensures { λ r. ⌜ Last-begun (starts-of (now (self .entry))) (now (place .entry) .byte) r ⌝ }
+    {
         let mut found = 0;
         for (i, start) in self.starts.iter().enumerate() {
             if *start <= place.byte {
@@ -98,15 +115,16 @@ impl Sources {
         found
     }
 
-    /// The place counted in its own file.
-    fn in_file(&self, place: &TextPlace) -> TextPlace {
-        let start = self.starts.get(self.file_of(place)).copied().unwrap_or(0);
-        match self.text().get(0..start) {
-            Some(before) => TextPlace {
-                line: place.line.saturating_sub(line_ends(before)),
-                byte: place.byte.saturating_sub(start),
-            },
-            None => *place,
+    /// A place counted in a file.
+    fn in_file(&self, file: usize, place: &TextPlace) -> TextPlace
+        ensures { λ r. ⌜ r ≡ in-file (now (self .entry)) file (now (place .entry)) ⌝ }
+    {
+        let start = self.starts.get(file).copied().unwrap_or(0);
+        let text = self.text();
+        let before = text.get(..start).unwrap_or(text);
+        TextPlace {
+            line: place.line.saturating_sub(line_ends(before)),
+            byte: place.byte.saturating_sub(start),
         }
     }
 }
@@ -122,7 +140,9 @@ fn has_line_end(content: &[u8]) -> bool
 }
 
 /// How many line ends there are.
-fn line_ends(content: &[u8]) -> usize {
+fn line_ends(content: &[u8]) -> usize
+    ensures { λ r. ⌜ r ≡ line-ends (now (content .entry)) ⌝ }
+{
     let mut n = 0usize;
     for b in content {
         if *b == b'\n' {
