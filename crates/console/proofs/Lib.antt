@@ -1,3 +1,4 @@
+pub mod Asking
 pub mod Failing
 pub mod Listing
 pub mod Typing

@@ -3,3 +3,4 @@ pub mod Texts
 pub mod Answers
 pub mod Words
 pub mod Typed
+pub mod Commands

@@ -1,3 +1,10 @@
+ghost use lib.Chars.{codes};
+ghost use mathlib.Core.Path.{_≡_};
+ghost use Rattle.console.specs.Commands.{Asks, Asks-none, Because, Complete, Follows, Lacks, No-option, Stuck, Takes, Takes-any, asked, names-of, nothing};
+ghost use Rattle.std.specs.Of.String.{string-bytes};
+ghost use Rattle.std.specs.Results.{Cases, ErrBy};
+ghost use Rattle.std.specs.declared.option.Option.the-variants.{None, Some};
+ghost use Rattle.text.specs.Values.{numeral};
 use crate::failure::Failure;
 use crate::failure::FailureFromRefused;
 use crate::failure::told;
@@ -43,7 +50,9 @@ struct Options {
 }
 
 impl Options {
-    fn new(heap: Global) -> Options {
+    fn new(heap: Global) -> Options
+        ensures { λ r. ⌜ asked r ≡ nothing ⌝ }
+    {
         Options {
             due: Due::Any,
             switch: None,
@@ -52,7 +61,9 @@ impl Options {
         }
     }
 
-    fn add(&mut self, heap: Global, word: String) -> Result<(), Failure> {
+    fn add(&mut self, heap: Global, word: String) -> Result<(), Failure>
+        ensures { λ r. ⌜ Cases r (λ _. Takes (asked (now (self .entry))) (string-bytes word) (asked (now (self .exit)))) (Because (Stuck (now (self .entry) .due) (string-bytes word))) ⌝ }
+    {
         match self.due {
             Due::Any => self.add_any(heap, word),
             Due::Switch => {
@@ -72,7 +83,9 @@ impl Options {
         }
     }
 
-    fn add_any(&mut self, heap: Global, word: String) -> Result<(), Failure> {
+    fn add_any(&mut self, heap: Global, word: String) -> Result<(), Failure>
+        ensures { λ r. ⌜ Cases r (λ _. Takes-any (asked (now (self .entry))) (string-bytes word) (asked (now (self .exit)))) (Because (No-option (string-bytes word))) ⌝ }
+    {
         match word.as_str() {
             "--" => self.due = Due::File,
             "--switch" => self.due = Due::Switch,
@@ -88,7 +101,9 @@ impl Options {
     }
 
     /// All words have been added: whether the last option has its value, and there is a file.
-    fn finish(&self, heap: Global, command: &str) -> Result<(), Failure> {
+    fn finish(&self, heap: Global, command: &str) -> Result<(), Failure>
+        ensures { λ r. ⌜ Cases r (λ _. Complete (asked (now (self .entry)))) (Because (Complete (asked (now (self .entry))) → ⊥)) ⌝ }
+    {
         match self.due {
             Due::Switch => return told(format!(heap, "yarnbrick: --switch wants a number")),
             Due::Packet => return told(format!(heap, "yarnbrick: --packet wants words FIELD=V")),
@@ -100,7 +115,9 @@ impl Options {
         Ok(())
     }
 
-    fn check(self, heap: Global) -> Result<Command, Failure> {
+    fn check(self, heap: Global) -> Result<Command, Failure>
+        ensures { λ r. ⌜ Cases r (Follows (codes "check") (asked self)) (Because (Lacks (codes "check") (asked self))) ⌝ }
+    {
         self.finish(heap, "check")?;
         let Options {
             due: _,
@@ -114,7 +131,9 @@ impl Options {
         Ok(Command::Check { files })
     }
 
-    fn ports(self, heap: Global) -> Result<Command, Failure> {
+    fn ports(self, heap: Global) -> Result<Command, Failure>
+        ensures { λ r. ⌜ Cases r (Follows (codes "ports") (asked self)) (Because (Lacks (codes "ports") (asked self))) ⌝ }
+    {
         self.finish(heap, "ports")?;
         let Options {
             due: _,
@@ -133,7 +152,9 @@ impl Options {
     }
 }
 
-fn no_option(heap: Global, word: String) -> Result<(), Failure> {
+fn no_option(heap: Global, word: String) -> Result<(), Failure>
+    ensures { λ r. ⌜ ErrBy r (Because (Unit {0})) ⌝ }
+{
     told(format!(
         heap,
         "yarnbrick: no option '{word}'; 'yarnbrick help' lists them"
@@ -141,7 +162,9 @@ fn no_option(heap: Global, word: String) -> Result<(), Failure> {
 }
 
 /// A switch number, 0 to 65535.
-fn switch_of(heap: Global, word: &str) -> Result<u16, Failure> {
+fn switch_of(heap: Global, word: &str) -> Result<u16, Failure>
+    ensures { λ r. ⌜ Cases r (λ n. numeral 65535 (now (word .entry)) ≡ Some n) (Because (numeral 65535 (now (word .entry)) ≡ None)) ⌝ }
+{
     match number_of(word.as_bytes(), 65535) {
         Some(number) => Ok(number),
         None => told(format!(
@@ -152,7 +175,9 @@ fn switch_of(heap: Global, word: &str) -> Result<u16, Failure> {
 }
 
 /// The command of that name, with the words after it.
-pub fn command_of(heap: Global, name: &str, words: Vec<String>) -> Result<Command, Failure> {
+pub fn command_of(heap: Global, name: &str, words: Vec<String>) -> Result<Command, Failure>
+    ensures { λ r. ⌜ Cases r (Asks (now (name .entry)) (names-of words)) (Because (Asks-none (now (name .entry)) (names-of words))) ⌝ }
+{
     let mut options = Options::new(heap);
     for word in words {
         options.add(heap, word)?;
