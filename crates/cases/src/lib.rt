@@ -1,4 +1,6 @@
 //! Examples of every layer, as tests: there is nothing here for a program to call.
+#![tactic(auto)]
+
 #[cfg(test)]
 mod consoles;
 #[cfg(test)]

@@ -1,5 +1,7 @@
 //! What the program is asked and what it answers, as text: arguments, packets as people type them, policy files read
 //! as one text, and the lines of each command.
+#![tactic(auto)]
+
 mod answers;
 mod arguments;
 mod failure;

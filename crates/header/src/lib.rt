@@ -1,4 +1,6 @@
 //! Header kinds: what the patterns of a switch's rows are, and the four laws that everything above rests on.
+#![tactic(auto)]
+
 mod frame;
 mod kind;
 mod overlaps;

@@ -1,4 +1,6 @@
 //! Packets, their fields and the tests on them; ports; the bounded list that holds them; the numbered refusals.
+#![tactic(auto)]
+
 mod bounded;
 mod fault;
 mod field;

@@ -1,4 +1,6 @@
 //! Policies: their nodes, what they mean, and the evaluator.
+#![tactic(auto)]
+
 mod evaluator;
 mod node;
 mod policy;

@@ -1,4 +1,6 @@
 //! The reader of policy texts.
+#![tactic(auto)]
+
 mod class;
 mod due;
 mod head;

@@ -1,4 +1,6 @@
 //! The program: policies kept as text files, checked and asked where they send a packet.
+#![tactic(auto)]
+
 use console::{Command, Failure, Sources};
 use std::{env, fs};
 
