@@ -1,10 +1,9 @@
 -- A test whose parts fit is the one that they make.
-use Rattle.std.proofs.Common.{◌≡◌, ℕ, Bool, true, false, Some, None, Option, sym, refl, ap, ◌∙◌}
+use Rattle.std.proofs.Common.{◌≡◌, ℕ, Bool, true, false, Some, None, sym, refl, ap, ◌∙◌}
 use mathlib.Core.Bool.{Bool-set, false≢true}
 use Rattle.packet.specs.Fields.{fits}
 use Rattle.packet.specs.Tests.{tested, tested_if}
 use Rattle.packet.specs.declared.field.Field.{Field}
-use Rattle.packet.specs.declared.test.Test.{Test}
 
 pub tested_fits : (f : Field) (v l : ℕ) (e : fits f v l ≡ true) → Some (record { field = f; value = v; length = l; fit = e }) ≡ tested f v l
 tested_fits f v l e = go (fits f v l) refl

@@ -8,7 +8,7 @@ use Rattle.console.proofs.answers.check.Goals as goal
 
 pub returns : goal.returns
 returns c =
-    let p = c.in-ok-policy.policy in
-    let read = c.in-ok-policy.ensures in
+    let p = c.in_ok-policy.policy in
+    let read = c.in_ok-policy.ensures in
     let nodes = sym (length-map c.nodes.result.now shape) ∙ ap length (c.nodes.ensures ∙ read.order) in
-    (tree_of p, read.writes, c.in-ok-format.ensures.ok ∙ ap nodes_line nodes)
+    (tree_of p, read.writes, c.in_ok-format.ensures.ok ∙ ap nodes_line nodes)

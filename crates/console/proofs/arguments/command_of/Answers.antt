@@ -15,7 +15,7 @@ loop-word-preserved c =
     let a = asked c.loop-word.options in
     let m = asked c.add.new.self in
     let cut = c.in-Some.ensures.steps.0 in
-    let one = c.in-ok-add.ensures in
+    let one = c.in_ok-add.ensures in
     ((λ b h. c.loop-word.invariant.0 b (one_word_more a m b c.in-Some.word cut one h)), (λ h. c.loop-word.invariant.1 (stops_later a m c.in-Some.word cut one h)))
 
 pub returns-in-check : goal.returns-in-check
@@ -38,18 +38,18 @@ returns-in-help c =
     let all = all_taken a (asked c.new-options.result) c.loop-word.word-iterator c.loop-word.invariant.0 c.new-options.ensures c.into-iter-word-iterator.ensures.into-iter-gives.0 c.in-None.ensures.steps.0 in
     (a, all, c.in-help.is)
 
-pub returns-in-default : goal.returns-in-default
-returns-in-default c =
+pub returns-in_default : goal.returns-in_default
+returns-in_default c =
     let name = c.args.name.now in
     let words = names_of c.args.words in
     let a = asked c.loop-word.options in
     let all = all_taken a (asked c.new-options.result) c.loop-word.word-iterator c.loop-word.invariant.0 c.new-options.ensures c.into-iter-word-iterator.ensures.into-iter-gives.0 c.in-None.ensures.steps.0 in
-    let none = inr (a, all, no_other name a c.in-default.not-help c.in-default.not-check c.in-default.not-ports) in
+    let none = inr (a, all, no_other name a c.in_default.not-help c.in_default.not-check c.in_default.not-ports) in
     told_case Told (Asks name words) (Because (AsksNone name words)) c.format.result c.told.result (λ line. none) tt c.told.ensures
 
-pub returns-in-err-add : goal.returns-in-err-add
-returns-in-err-add c =
+pub returns-in_err-add : goal.returns-in_err-add
+returns-in_err-add c =
     let a = asked c.loop-word.options in
     let stops = stops_here a (asked c.new-options.result) c.in-Some.word c.loop-word.invariant.1 c.new-options.ensures c.into-iter-word-iterator.ensures.into-iter-gives.0 c.in-Some.ensures.steps.0 in
     let p = err_from_is_err_and c.from-residual.result c.from-residual.ensures.1 in
-    rw (p.1, p.2) (because _ _ (λ stuck. inl (stops stuck)) c.in-err-add.field-0.0 c.in-err-add.ensures)
+    rw (p.1, p.2) (because _ _ (λ stuck. inl (stops stuck)) c.in_err-add.field-0.0 c.in_err-add.ensures)

@@ -15,15 +15,15 @@ loop-word-init c = no_words _ _ _ refl refl (ap split_whitespace_rest c.into-ite
 pub loop-word-preserved : goal.loop-word-preserved
 loop-word-preserved c =
     let first = first_of _ c.in-Some.word.now _ c.in-Some.ensures.steps in
-    one_more c.loop-word.invariant first (rw c.in-Some.word-is at c.in-ok-add.ensures)
+    one_more c.loop-word.invariant first (rw c.in-Some.word-is at c.in_ok-add.ensures)
 
 pub returns-in-Ok : goal.returns-in-Ok
 returns-in-Ok c = described c.loop-word.invariant c.in-None.ensures.steps.1 c.in-Ok.ensures.1
 
-pub returns-in-err-add : goal.returns-in-err-add
-returns-in-err-add c =
+pub returns-in_err-add : goal.returns-in_err-add
+returns-in_err-add c =
     let first = first_of _ c.in-Some.word.now _ c.in-Some.ensures.steps in
-    let none = rw c.in-Some.word-is at c.in-err-add.ensures in
+    let none = rw c.in-Some.word-is at c.in_err-add.ensures in
     let p = err_from_is_err_and c.from-residual.result c.from-residual.ensures.1 in
     rw (p.1, p.2) (wrong_word c.loop-word.invariant first _ none)
 

@@ -5,8 +5,8 @@ use Rattle.packet.specs.PortLists.{times}
 use Rattle.policy.proofs.Counting.{counted_more, port_within, port_times}
 use Rattle.policy.proofs.evaluator.count_ports.Goals as goal
 
-pub overflow-sub-counts : goal.overflow-sub-counts
-overflow-sub-counts c =
+pub overflow_sub-counts : goal.overflow_sub-counts
+overflow_sub-counts c =
     let w = port_within c.args.ports.now c.as-slice-list.result.now c.as-slice-list.ensures c.loop-port.port-index (omega arith) in
     omega arith
 
@@ -20,8 +20,8 @@ bounds-counts-port-in-loop-port c =
     let w = port_within c.args.ports.now c.as-slice-list.result.now c.as-slice-list.ensures c.loop-port.port-index (omega arith) in
     omega arith
 
-pub overflow-add-counts : goal.overflow-add-counts
-overflow-add-counts c =
+pub overflow_add-counts : goal.overflow_add-counts
+overflow_add-counts c =
     let list = c.as-slice-list.result.now in
     let i = c.loop-port.port-index in
     let w = port_within c.args.ports.now list c.as-slice-list.ensures i (omega arith) in

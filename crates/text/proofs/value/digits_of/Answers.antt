@@ -6,8 +6,8 @@ use Rattle.text.specs.Values.{digit, digits, at_most}
 use Rattle.text.proofs.Digits.{digit_small, past_limit, digits_more, digits_bad}
 use Rattle.text.proofs.value.digits_of.Goals as goal
 
-pub overflow-add-n : goal.overflow-add-n
-overflow-add-n c =
+pub overflow_add-n : goal.overflow_add-n
+overflow_add-n c =
     let small : c.in-Some.d < 10 = digit_small (get_or c.args.word.now c.loop-b.b-index 0) c.in-Some.d (sym c.in-Some.ensures) in
     let few = c.loop-b.invariant.0 in search rules
 

@@ -6,11 +6,11 @@ use Rattle.text.specs.Values.{digits, nibble}
 use Rattle.text.proofs.Digits.{hex_more, hex_small, nibble_small, digits_more, digits_bad}
 use Rattle.text.proofs.value.hardware_of.Goals as goal
 
-pub overflow-mul-n : goal.overflow-mul-n
-overflow-mul-n c = let h : c.loop-b.n < 2 ^ 48 = hex_small _ _ c.loop-b.invariant.0 (omega arith) in search rules
+pub overflow_mul-n : goal.overflow_mul-n
+overflow_mul-n c = let h : c.loop-b.n < 2 ^ 48 = hex_small _ _ c.loop-b.invariant.0 (omega arith) in search rules
 
-pub overflow-add-n : goal.overflow-add-n
-overflow-add-n c =
+pub overflow_add-n : goal.overflow_add-n
+overflow_add-n c =
     let h : c.loop-b.n < 2 ^ 48 = hex_small _ _ c.loop-b.invariant.0 (omega arith) in
     let k = nibble_small (get_or c.args.word.now c.loop-b.b-index 0) c.in-Some.d (sym c.in-Some.ensures) in search rules
 

@@ -6,15 +6,15 @@ use Rattle.console.specs.Typed.{Describes}
 use Rattle.console.proofs.Asking.{at_due, one_file_more}
 use Rattle.console.proofs.arguments.Options.add.Goals as goal
 
-pub returns-in-ok-packet-of : goal.returns-in-ok-packet-of
-returns-in-ok-packet-of c =
-    let p = c.in-ok-packet-of.field-0 in
+pub returns-in_ok-packet-of : goal.returns-in_ok-packet-of
+returns-in_ok-packet-of c =
+    let p = c.in_ok-packet-of.field-0 in
     let a = asked c.args.self.now in
-    at_due a (string_bytes c.args.word) (with_packet p a) c.in-Packet.is (p, subst (λ l. Describes l (number p)) c.as-str-in-Packet.ensures.value c.in-ok-packet-of.ensures, refl)
+    at_due a (string_bytes c.args.word) (with_packet p a) c.in-Packet.is (p, subst (λ l. Describes l (number p)) c.as-str-in-Packet.ensures.value c.in_ok-packet-of.ensures, refl)
 
-pub returns-in-ok-push : goal.returns-in-ok-push
-returns-in-ok-push c =
+pub returns-in_ok-push : goal.returns-in_ok-push
+returns-in_ok-push c =
     let o = c.args.self.now in
     let a = asked o in
     let b : Asked = record { next = o.due; switch = o.switch; packet = o.packet; files = names_of c.push.new.self } in
-    at_due a (string_bytes c.args.word) b c.in-File.is (one_file_more o c.push.new.self c.args.word c.in-ok-push.ensures.items)
+    at_due a (string_bytes c.args.word) b c.in-File.is (one_file_more o c.push.new.self c.args.word c.in_ok-push.ensures.items)

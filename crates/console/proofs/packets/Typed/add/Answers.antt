@@ -33,26 +33,26 @@ returns c =
       given = ap (λ i. set old.given i true) c.place-place.ensures.is;
     }
 
-pub returns-in-default : goal.returns-in-default
-returns-in-default c =
+pub returns-in_default : goal.returns-in_default
+returns-in_default c =
     let word = c.args.word.now in
-    told_case Told _ (AddsNone word c.args.self.now) c.format.result c.told.result (λ line f n g. absurd (never_whole g c.in-default.ensures.cases)) tt c.told.ensures
+    told_case Told _ (AddsNone word c.args.self.now) c.format.result c.told.result (λ line f n g. absurd (never_whole g c.in_default.ensures.cases)) tt c.told.ensures
 
-pub returns-in-default-field-of : goal.returns-in-default-field-of
-returns-in-default-field-of c =
+pub returns-in_default-field-of : goal.returns-in_default-field-of
+returns-in_default-field-of c =
     let word = c.args.word.now in
-    let none = ap named_field (sym c.as-bytes.ensures.value) ∙ sym c.field-of.ensures ∙ c.in-default-field-of.is in
-    told_case Told _ (AddsNone word c.args.self.now) c.format-in-default-field-of.result c.told-in-default-field-of.result
-    (λ line f n g. absurd (never_unnamed g (c.in-Some.name, c.in-Some.value) c.in-Some.ensures.cases none)) tt c.told-in-default-field-of.ensures
+    let none = ap named_field (sym c.as-bytes.ensures.value) ∙ sym c.field-of.ensures ∙ c.in_default-field-of.is in
+    told_case Told _ (AddsNone word c.args.self.now) c.format-in_default-field-of.result c.told-in_default-field-of.result
+    (λ line f n g. absurd (never_unnamed g (c.in-Some.name, c.in-Some.value) c.in-Some.ensures.cases none)) tt c.told-in_default-field-of.ensures
 
-pub returns-in-default-value-of : goal.returns-in-default-value-of
-returns-in-default-value-of c =
+pub returns-in_default-value-of : goal.returns-in_default-value-of
+returns-in_default-value-of c =
     let word = c.args.word.now in
     let h = c.in-Some-field-of.field in
     let named = ap named_field (sym c.as-bytes.ensures.value) ∙ sym c.field-of.ensures ∙ c.in-Some-field-of.is in
-    let none = ap (λ l. full_value h (test_from h l)) (sym c.as-bytes-2.ensures.value) ∙ sym c.value-of.ensures ∙ c.in-default-value-of.is in
-    told_case Told _ (AddsNone word c.args.self.now) c.format-in-default-value-of.result c.told-in-default-value-of.result
-    (λ line f n g. absurd (never_unsaid g (c.in-Some.name, c.in-Some.value) c.in-Some.ensures.cases h named none)) tt c.told-in-default-value-of.ensures
+    let none = ap (λ l. full_value h (test_from h l)) (sym c.as-bytes-2.ensures.value) ∙ sym c.value-of.ensures ∙ c.in_default-value-of.is in
+    told_case Told _ (AddsNone word c.args.self.now) c.format-in_default-value-of.result c.told-in_default-value-of.result
+    (λ line f n g. absurd (never_unsaid g (c.in-Some.name, c.in-Some.value) c.in-Some.ensures.cases h named none)) tt c.told-in_default-value-of.ensures
 
 pub returns-then-self-place : goal.returns-then-self-place
 returns-then-self-place c =

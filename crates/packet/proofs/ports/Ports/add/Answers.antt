@@ -1,12 +1,12 @@
 -- The longer list is one of ports, in rising order.
-use Rattle.std.proofs.Common.{◌≡◌, true, ap, ◌∙◌, arith}
+use Rattle.std.proofs.Common.{ap, ◌∙◌, arith}
 use Rattle.packet.specs.Items.{items_of}
-use Rattle.packet.specs.PortLists.{are_ports, placed}
+use Rattle.packet.specs.PortLists.{are_ports}
 use Rattle.packet.proofs.PortOrder.{placed_rises}
 use Rattle.packet.proofs.ports.Ports.add.Goals as goal
 
-pub invariant-of-self : goal.invariant-of-self
-invariant-of-self c =
+pub invariant_of-self : goal.invariant_of-self
+invariant_of-self c =
     let p = c.args.self.now in
     let port = c.args.port in
-    (ap are_ports c.with-port-grown.ensures ∙ placed_rises 1 48 port (items_of p.list) (omega arith) (omega arith) p.right, tt)
+    record { right = ap are_ports c.with_port-grown.ensures ∙ placed_rises 1 48 port (items_of p.list) (omega arith) (omega arith) p.right }

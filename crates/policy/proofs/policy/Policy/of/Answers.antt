@@ -5,7 +5,7 @@ use Rattle.policy.specs.Shapes.{shape}
 use Rattle.policy.proofs.Numbering.{parts_right}
 use Rattle.policy.proofs.policy.Policy.of.Goals as goal
 
-pub invariant-of-result : goal.invariant-of-result
-invariant-of-result c =
+pub invariant_of-result : goal.invariant_of-result
+invariant_of-result c =
     let p = parts_right (map shape (items_of c.args.nodes)) c.requires in
     (c.requires, (p.below, (p.once, (∣ p.kinds ∣₁, (∣ p.root ∣₁, tt)))))

@@ -13,22 +13,22 @@ use Rattle.text.proofs.state.State.open.Goals as goal
 pub returns-then-self : goal.returns-then-self
 returns-then-self c =
     let s = c.args.self.now in
-    open_formed (reading s) (ap (map due_of) (newest_empty s.brackets c.pop.new.self c.in-default.ensures).0) c.if-self.true
+    open_formed (reading s) (ap (map due_of) (newest_empty s.brackets c.pop.new.self c.in_default.ensures).0) c.if-self.true
 
-pub returns-in-default : goal.returns-in-default
-returns-in-default c =
+pub returns-in_default : goal.returns-in_default
+returns-in_default c =
     let s = c.args.self.now in
     let left = c.pop.new.self in
     let new = c.push.new.self in
-    let none = newest_empty s.brackets left c.in-default.ensures in
-    let put : newest new ≡ Head Policy ∷ newest left = newest_push left new (Head Policy) c.push.result c.push.ensures (omega (arith, ap length c.in-default.ensures.1)) in
+    let none = newest_empty s.brackets left c.in_default.ensures in
+    let put : newest new ≡ Head Policy ∷ newest left = newest_push left new (Head Policy) c.push.result c.push.ensures (omega (arith, ap length c.in_default.ensures.1)) in
     open_form (reading s) (ap (map due_of) none.0) (map due_of (newest new)) c.if-self.false (ap (map due_of) put ∙ ap (λ x. d_head Policy ∷ map due_of x) none.1)
 
-pub returns-in-default-part-of : goal.returns-in-default-part-of
-returns-in-default-part-of c =
+pub returns-in_default-part-of : goal.returns-in_default-part-of
+returns-in_default-part-of c =
     let s = c.args.self.now in
     let left = c.pop.new.self in
-    open_no (reading s) (due_of c.in-Some.d) (newest left) (ap (map due_of) (newest_pop s.brackets left c.in-Some.d c.in-Some.ensures)) c.in-default-part-of.ensures
+    open_no (reading s) (due_of c.in-Some.d) (newest left) (ap (map due_of) (newest_pop s.brackets left c.in-Some.d c.in-Some.ensures)) c.in_default-part-of.ensures
 
 pub returns-then-push : goal.returns-then-push
 returns-then-push c =

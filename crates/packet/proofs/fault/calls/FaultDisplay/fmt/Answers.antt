@@ -1,8 +1,8 @@
 -- What is written of each layer's faults is the line of the definition.
-use Rattle.std.proofs.Common.{◌≡◌, ◌++◌, codes, decimal, sym, ap, ◌∙◌, subst}
+use Rattle.std.proofs.Common.{◌++◌, codes, decimal, sym, ap, ◌∙◌, subst}
 use Rattle.std.specs.Fmt.{HasWritten}
 use Rattle.packet.specs.Faults.{number_of}
-use Rattle.packet.specs.Telling.{meaning_of, name_of, told}
+use Rattle.packet.specs.Telling.{meaning_of, told}
 use Rattle.packet.proofs.fault.calls.FaultDisplay.fmt.Goals as goal
 
 pub returns-in-Reader-clause-writes : goal.returns-in-Reader-clause-writes
