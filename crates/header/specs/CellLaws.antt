@@ -1,5 +1,5 @@
 -- What the cells of a kind owe, field by field.
-use Rattle.std.specs.Prelude.{◌≡◌, ℕ, Bool, true, false, ◌&&◌, ◌⊎◌, ◌==◌}
+use Rattle.std.specs.Prelude.{◌≡◌, ℕ, true, false, ◌&&◌, ◌⊎◌, ◌==◌}
 use Rattle.packet.specs.Fields.{allowed}
 use Rattle.packet.specs.declared.field.Field.{Field}
 use Rattle.header.specs.Cells.{Cell}

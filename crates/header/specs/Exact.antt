@@ -1,6 +1,6 @@
 -- The laws of a cell that states a number or nothing.
-use Rattle.std.specs.Prelude.{◌≡◌, ℕ, Bool, true, false, cond, ◌&&◌, ◌⊎◌, Some, None, Option, ◌==◌, refl}
-use Rattle.std.proofs.Common.{sym, ap, subst, ◌∙◌, inl, inr}
+use Rattle.std.specs.Prelude.{◌≡◌, ℕ, true, false, ◌&&◌, ◌⊎◌, Some, None, Option, ◌==◌, refl}
+use Rattle.std.proofs.Common.{sym, subst, ◌∙◌, inl, inr}
 use Rattle.std.proofs.lemmas.Bool.{both_ways, true≢false, false≢true, eqb-true, eqb-false, eq-eqb, ne_eqb, and_parts, and_from}
 use Rattle.packet.proofs.Every.{another, zero_allowed}
 use Rattle.packet.specs.Fields.{allowed}

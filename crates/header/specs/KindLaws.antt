@@ -1,7 +1,7 @@
 -- The laws of a header kind whose patterns have a cell for each field.
-use Rattle.std.specs.Prelude.{◌≡◌, ℕ, Bool, true, false, cond, ◌&&◌, eqb, Some, None, Option, refl}
+use Rattle.std.specs.Prelude.{◌≡◌, ℕ, Bool, true, false, cond, ◌&&◌, Some, None, refl}
 use Rattle.std.proofs.Common.{sym, ap, subst, ◌∙◌, inl, inr, arith}
-use Rattle.std.proofs.lemmas.Bool.{both_ways, cases_Bool, and_from}
+use Rattle.std.proofs.lemmas.Bool.{both_ways, cases_Bool}
 use Rattle.packet.proofs.Every.{every_from, number_allowed}
 use Rattle.packet.proofs.Ways.{way_of, exists_way}
 use Rattle.packet.proofs.Witness.{lawful_number}
@@ -14,7 +14,7 @@ use Rattle.packet.specs.declared.test.Test.{Test}
 use Rattle.header.specs.CellLaws.{CellLaws}
 use Rattle.header.specs.FieldWise.{witness, both_made, both_hit, clash_hit, cover_hit, escaped}
 use Rattle.header.specs.TestCells.{test_hit, test_made, blank_takes}
-use Rattle.header.specs.Cells.{Cell, hits_all, agrees_all, both_all, covers_all, test_cells, well_made}
+use Rattle.header.specs.Cells.{Cell, hits_all, agrees_all, both_all, test_cells, well_made}
 use Rattle.header.specs.Laws.{Kind, Laws}
 use Rattle.header.specs.Layouts.{Layout, kind_of}
 

@@ -1,7 +1,7 @@
 -- The laws of a cell that is a prefix.
-use Rattle.std.specs.Prelude.{◌≡◌, ℕ, ◌-◌, ◌/◌, ◌^◌, ◌<◌, ◌≤◌, min, Bool, true, false, cond, ◌&&◌, ◌⊎◌, ◌==◌, nat_le, nat_lt, refl}
+use Rattle.std.specs.Prelude.{◌≡◌, ℕ, ◌<◌, ◌≤◌, min, Bool, true, false, cond, ◌&&◌, ◌⊎◌, ◌==◌, nat_le, nat_lt, refl}
 use Rattle.std.proofs.Common.{sym, ap, subst, ◌∙◌, inl, inr, arith}
-use Rattle.std.proofs.lemmas.Bool.{both_ways, true≢false, eqb-true, eqb-false, eq-eqb, ne_eqb, ltb-true, ltb-false, lt-ltb, leb-true, leb-false, le-leb, and_parts, and_from, and_cases, cases_Bool, cases_lt}
+use Rattle.std.proofs.lemmas.Bool.{eqb-true, eqb-false, eq-eqb, ne_eqb, ltb-true, ltb-false, lt-ltb, leb-true, leb-false, le-leb, and_parts, and_from, and_cases, cases_Bool}
 use Rattle.packet.proofs.Every.{zero_allowed}
 use Rattle.packet.specs.Fields.{allowed, fits, width}
 use Rattle.packet.specs.Tests.{first_bits}
@@ -9,7 +9,7 @@ use Rattle.packet.specs.declared.field.Field.{Field}
 use Rattle.header.specs.CellLaws.{CellLaws}
 use Rattle.header.specs.FirstBits.{fewer, no_bits, all_bits, apart}
 use Rattle.header.specs.Truth.{same_truth, and_true}
-use Rattle.header.specs.Routes.{blank, full, stated, takes, agree, longer, covers, prefixes}
+use Rattle.header.specs.Routes.{full, stated, takes, agree, longer, covers, prefixes}
 use Rattle.header.specs.declared.route.Prefix.{Prefix}
 
 abbrev sized : Field → Prefix → Bool

@@ -10,7 +10,6 @@ use Rattle.packet.specs.Packets.{number}
 use Rattle.packet.specs.declared.packet.Packet.{Packet}
 use Rattle.packet.specs.declared.field.Field.{Field}
 use Rattle.packet.specs.declared.field.Field.TheVariants.{DlSrc, DlDst, DlTyp, NwSrc, NwDst, NwProto, TpSrc, TpDst}
-use Rattle.packet.specs.declared.test.Test.{Test}
 use Rattle.header.specs.KindLaws.{Laid, kind_laws}
 use Rattle.header.specs.Prefixes.{prefix_laws}
 use Rattle.header.specs.TestCells.{blank_takes}

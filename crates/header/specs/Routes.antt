@@ -1,5 +1,5 @@
 -- The route kind: a pattern states whether the packet is IP, and a prefix of each network address.
-use Rattle.std.specs.Prelude.{ℕ, min, Bool, true, false, cond, ◌&&◌, ◌||◌, ◌==◌, nat_le, nat_lt}
+use Rattle.std.specs.Prelude.{ℕ, min, Bool, cond, ◌&&◌, ◌||◌, ◌==◌, nat_le, nat_lt}
 use Rattle.packet.specs.Fields.{each_field, fits, same, way, width}
 use Rattle.packet.specs.Tests.{first_bits}
 use Rattle.packet.specs.declared.field.Field.{Field}

@@ -1,5 +1,5 @@
 -- The pattern of a test, by its cells, is hit exactly where the field exists in the test's way and its own cell takes the number, and it is well made.
-use Rattle.std.specs.Prelude.{◌≡◌, ℕ, Bool, true, false, cond, not, ◌&&◌, ◌||◌, List, [], ◌∷◌, ◌==◌, refl}
+use Rattle.std.specs.Prelude.{◌≡◌, ℕ, Bool, true, false, not, ◌&&◌, ◌||◌, List, [], ◌∷◌, ◌==◌, refl}
 use Rattle.std.proofs.Common.{sym, subst, ◌∙◌, inl, inr}
 use Rattle.std.proofs.lemmas.Bool.{and_parts, and_from, both_ways, false≢true, eqb-true, or_cases, or_left, or_right, cond-true, cond-false, cond_both, cases_Bool}
 use Rattle.packet.proofs.Every.{every_at, every_from, number_allowed}

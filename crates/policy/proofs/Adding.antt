@@ -1,12 +1,11 @@
 -- One node more: what it takes and makes.
-use Rattle.std.proofs.Common.{◌≡◌, ℕ, ◌+◌, ◌<◌, Bool, true, false, List, [], ◌∷◌, ◌++◌, length, get_or, take, drop, is_some, Some, None, Option, sym, refl, ap, ◌∙◌, subst, arith}
+use Rattle.std.proofs.Common.{◌≡◌, ℕ, ◌+◌, ◌<◌, true, List, [], ◌∷◌, ◌++◌, length, get_or, take, drop, is_some, Some, None, Option, sym, refl, ap, ◌∙◌, subst}
 use mathlib.Core.Bool.{false≢true}
 use Rattle.std.proofs.lemmas.List.{take-append-drop, take_more, drop_more}
 use Rattle.packet.specs.declared.test.Test.{Test}
-use Rattle.packet.specs.declared.ports.Ports.{Ports}
 use Rattle.policy.specs.Shapes.{Shape}
 use Rattle.policy.specs.Shapes.Shape.{n_any, n_at, n_is, n_and, n_or, n_not, n_send, n_both, n_keep}
-use Rattle.policy.specs.Trees.{Pred, Pol, Tree, Untaken, add, on, stack_of, trees, after}
+use Rattle.policy.specs.Trees.{Pred, Pol, Untaken, add, on, stack_of, trees, after}
 use Rattle.policy.specs.Trees.Pred.{any, at, test, and, or, not}
 use Rattle.policy.specs.Trees.Pol.{send, both, keep}
 use Rattle.policy.specs.Trees.Tree.{pred, pol}

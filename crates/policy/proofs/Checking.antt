@@ -1,9 +1,9 @@
 -- The nodes of a policy checked one by one: what one more node leaves, and where it does not fit.
-use Rattle.std.proofs.Common.{◌≡◌, ℕ, ◌+◌, ◌<◌, ◌≤◌, Bool, true, false, List, [], ◌∷◌, map, length, get_or, take, is_some, sym, refl, ap, ◌∙◌, subst}
+use Rattle.std.proofs.Common.{◌≡◌, ℕ, ◌+◌, ◌<◌, ◌≤◌, Bool, true, false, List, map, length, get_or, take, is_some, sym, ap, ◌∙◌, subst}
 use Rattle.std.proofs.lemmas.List.{length-map, get_or-map, take_all}
 use Rattle.policy.specs.Building.{kinds_of, Takes}
 use Rattle.policy.specs.Shapes.{shape}
-use Rattle.policy.specs.Trees.{Untaken, add, stack_of, trees, only_policy, after}
+use Rattle.policy.specs.Trees.{add, stack_of, trees, only_policy, after}
 use Rattle.policy.specs.declared.node.Kind.{Kind}
 use Rattle.policy.specs.declared.node.Node.{Node}
 use Rattle.policy.proofs.Fitting.{stack_step, stuck}

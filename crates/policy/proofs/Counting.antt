@@ -15,7 +15,7 @@ use Rattle.policy.specs.Roots.{root_of, shapes_of, tree_of}
 use Rattle.policy.specs.Trees.{Pol, Untaken, stack_of, only_policy, trees, after}
 use Rattle.policy.specs.Trees.Tree.{pred, pol}
 use Rattle.policy.specs.Trees.Pol.{send, both, keep}
-use Rattle.policy.specs.Walks.{gives, sends_of, tally}
+use Rattle.policy.specs.Walks.{gives, tally}
 
 pub times_append : (n : ℕ) (xs ys : List ℕ) → times n (xs ++ ys) ≡ times n xs + times n ys
 times_append n [] ys = omega arith

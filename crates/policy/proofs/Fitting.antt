@@ -1,22 +1,20 @@
 -- A node finds its parts exactly where the newest kinds are those that it wants.
-use Rattle.std.proofs.Common.{◌≡◌, ℕ, ◌+◌, ◌-◌, ◌<◌, Bool, true, false, cond, List, [], ◌∷◌, ◌++◌, length, get_or, take, drop, is_some, Some, None, Decides, Option, sym, refl, ap, ◌∙◌, subst, inl, inr, ⊎_elim, true≢false, append_assoc, append-nil, arith}
+use Rattle.std.proofs.Common.{◌≡◌, ℕ, ◌+◌, ◌-◌, ◌<◌, Bool, true, false, List, [], ◌∷◌, ◌++◌, length, get_or, take, drop, is_some, Some, None, Decides, Option, sym, refl, ap, ◌∙◌, subst, true≢false, append_assoc, append-nil, arith}
 use mathlib.Core.Bool.{false≢true}
-use Rattle.std.specs.Cmp.Lexicographic.{Matches, Same, Apart}
+use Rattle.std.specs.Cmp.Lexicographic.{pointwise}
 use Rattle.std.proofs.lemmas.Slice.Eq.{ends_is, slice_eq-Decides}
 use Rattle.std.proofs.lemmas.List.{same_from_push, length_push, take_more, take-append-drop}
 use Rattle.policy.specs.declared.node.Kind.{Kind}
 use Rattle.policy.specs.declared.node.Kind.TheVariants.{Predicate, Policy}
+use Rattle.policy.specs.contracts.node.KindPartialEq.TheImpl as kind_eq
 use Rattle.policy.specs.Shapes.{Shape}
 use Rattle.policy.specs.Shapes.Shape.{n_any, n_at, n_is, n_and, n_or, n_not, n_send, n_both, n_keep}
 use Rattle.policy.specs.Building.{kinds_of}
 use Rattle.policy.specs.Kinds.{kind_of, wanted}
-use Rattle.policy.specs.Trees.{Pred, Pol, Tree, Untaken, add, on, stack_of, trees, only_policy, after}
-use Rattle.policy.specs.Trees.Pred.{any, at, test, and, or, not}
-use Rattle.policy.specs.Trees.Pol.{send, both, keep}
+use Rattle.policy.specs.Trees.{Pred, Pol, Untaken, add, on, stack_of, trees, only_policy, after}
 use Rattle.policy.specs.Trees.Tree.{pred, pol}
 use Rattle.policy.proofs.Adding.{Adds, adds, on_append, on_none}
 use Rattle.policy.proofs.Adding.Adds.{adds_any, adds_at, adds_test, adds_and, adds_or, adds_not, adds_send, adds_both, adds_keep}
-use Rattle.std.proofs.lemmas.Bool.Decides.{Decides-eqb}
 
 never : (e : Policy ≡ Predicate) → ⊥
 never e = let z : ◌≡◌ {A = ℕ} 0 1 = cc in omega arith
@@ -103,34 +101,19 @@ refuted true h = absurd (h refl)
 refuted false h = refl
 
 -- a derived `==` decides
-abbrev pub Alike : {K : Type 0} → K → K → Bool → Type 0
-Alike x y r = cond r (x ≡ y) (x ≡ y → ⊥)
-
-abbrev Deciding : {K : Type 0} → K → K → Bool → Type 0
-Deciding x y r = Decides r (x ≡ y)
-
-same_decided : {K : Type 0} (xs ys : List K) → Same Alike xs ys → Same Deciding xs ys
-same_decided [] [] h = tt
-same_decided [] (y ∷ ys) h = h
-same_decided (x ∷ xs) [] h = h
-same_decided (x ∷ xs) (y ∷ ys) h = ((λ _. h.0, λ _. refl), same_decided xs ys h.1)
-
-apart_decided : {K : Type 0} (xs ys : List K) → Apart Alike xs ys → Apart Deciding xs ys
-apart_decided [] ys h = h
-apart_decided (x ∷ xs) [] h = h
-apart_decided (x ∷ xs) (y ∷ ys) h = ⊎_elim (λ n. inl (λ q. absurd (false≢true q), λ e. absurd (n e))) (λ l. inr (apart_decided xs ys l)) h
-
-decided : {K : Type 0} (xs ys : List K) (r : Bool) → Matches Alike xs ys r → Matches Deciding xs ys r
-decided xs ys true h = (h.0, same_decided xs ys h.1)
-decided xs ys false h = ⊎_elim inl (λ l. inr (apart_decided xs ys l)) h
+pub kind_decided : (a b : Kind) → Decides (kind_eq.eq-value.it a b) (a ≡ b)
+kind_decided Predicate Predicate = (λ _. refl, λ _. refl)
+kind_decided Predicate Policy = (λ e. absurd (false≢true e), λ e. absurd (never (sym e)))
+kind_decided Policy Predicate = (λ e. absurd (false≢true e), λ e. absurd (never e))
+kind_decided Policy Policy = (λ _. refl, λ _. refl)
 
 -- what `ends_with` says of the kinds of the untaken trees
-module _ (n : Shape) (ts : Untaken) (kinds parts : List Kind) (r : Bool) (known : kinds ≡ kinds_of ts) (want : parts ≡ wanted n) (said : Matches Alike parts (drop (length kinds - length parts) kinds) r) where
+module _ (n : Shape) (ts : Untaken) (kinds parts : List Kind) (r : Bool) (known : kinds ≡ kinds_of ts) (want : parts ≡ wanted n) {E : Kind → Kind → Bool} (decides : (a b : Kind) → Decides (E a b) (a ≡ b)) (said : r ≡ pointwise E parts (drop (length kinds - length parts) kinds)) where
   pub found : r ≡ true → Fit n ts (take (length kinds - length parts) kinds)
-  found e = fits_when n ts (take (length kinds - length parts) kinds) (sym known ∙ (ends_is Decides-eqb kinds parts r (decided _ _ r said)).0 e ∙ ap (λ l. take (length kinds - length parts) kinds ++ l) want)
+  found e = fits_when n ts (take (length kinds - length parts) kinds) (sym known ∙ (ends_is decides kinds parts r said).0 e ∙ ap (λ l. take (length kinds - length parts) kinds ++ l) want)
 
   pub missed : r ≡ false → is_some (add n ts) ≡ false
-  missed e = refuted (is_some (add n ts)) (λ some. let front = fits_only (adds n ts some) in true≢false (sym ((ends_is Decides-eqb kinds parts r (decided _ _ r said)).1 front.0 (known ∙ front.1 ∙ ap (λ l. front.0 ++ l) (sym want))) ∙ e))
+  missed e = refuted (is_some (add n ts)) (λ some. let front = fits_only (adds n ts some) in true≢false (sym ((ends_is decides kinds parts r said).1 front.0 (known ∙ front.1 ∙ ap (λ l. front.0 ++ l) (sym want))) ∙ e))
 
 -- one policy is left exactly where the kinds say so
 only_from_kinds : (o : Option Untaken) → is_some o ≡ true → kinds_of (trees o) ≡ Policy ∷ [] → only_policy o ≡ true
@@ -148,9 +131,9 @@ kinds_from_only (Some (pred p ∷ ts)) e = absurd (false≢true e)
 kinds_from_only (Some (pol q ∷ [])) e = refl
 kinds_from_only (Some (pol q ∷ t ∷ ts)) e = absurd (false≢true e)
 
-module _ (o : Option Untaken) (kinds : List Kind) (r : Bool) (some : is_some o ≡ true) (known : kinds ≡ kinds_of (trees o)) (said : Matches Alike kinds (Policy ∷ []) r) where
+module _ (o : Option Untaken) (kinds : List Kind) (r : Bool) (some : is_some o ≡ true) (known : kinds ≡ kinds_of (trees o)) {E : Kind → Kind → Bool} (decides : (a b : Kind) → Decides (E a b) (a ≡ b)) (said : r ≡ pointwise E kinds (Policy ∷ [])) where
   pub whole : r ≡ true → only_policy o ≡ true
-  whole e = only_from_kinds o some (sym known ∙ (slice_eq-Decides Decides-eqb kinds (Policy ∷ []) r (decided kinds (Policy ∷ []) r said)).0 e)
+  whole e = only_from_kinds o some (sym known ∙ (slice_eq-Decides decides kinds (Policy ∷ []) r said).0 e)
 
   pub unfinished : r ≡ false → only_policy o ≡ false
-  unfinished e = refuted (only_policy o) (λ only. true≢false (sym ((slice_eq-Decides Decides-eqb kinds (Policy ∷ []) r (decided kinds (Policy ∷ []) r said)).1 (known ∙ kinds_from_only o only)) ∙ e))
+  unfinished e = refuted (only_policy o) (λ only. true≢false (sym ((slice_eq-Decides decides kinds (Policy ∷ []) r said).1 (known ∙ kinds_from_only o only)) ∙ e))

@@ -1,16 +1,16 @@
 -- The numbers of the parts follow from the stack discipline.
-use Rattle.std.proofs.Common.{◌≡◌, ℕ, zero, suc, ◌+◌, ◌-◌, ◌<◌, ◌≤◌, Bool, true, false, cond, eqb, List, [], ◌∷◌, ◌++◌, map, reverse, length, get_or, take, drop, is_some, Some, None, Option, sym, refl, ap, ◌∙◌, subst, ⊎_elim, append_assoc, add-one, arith}
+use Rattle.std.proofs.Common.{◌≡◌, ℕ, zero, suc, ◌+◌, ◌-◌, ◌<◌, ◌≤◌, Bool, true, false, cond, eqb, List, [], ◌∷◌, ◌++◌, map, reverse, length, get_or, take, drop, is_some, Some, None, Option, sym, refl, ap, ◌∙◌, subst, ⊎_elim, append_assoc, arith}
 use mathlib.Core.Bool.{false≢true}
 use Rattle.std.specs.List.{range_with_len}
-use Rattle.std.proofs.lemmas.List.{take-append-drop, take-map, drop-map, get_or_at, length_push, length-map}
-use Rattle.std.proofs.lemmas.Bool.{eqb-true, eqb-false, ne_eqb, eq-eqb, cases_lt}
+use Rattle.std.proofs.lemmas.List.{take-append-drop, take-map, drop-map, get_or_at, length_push}
+use Rattle.std.proofs.lemmas.Bool.{eqb-true, ne_eqb, eq-eqb, cases_lt}
 use Rattle.policy.specs.declared.node.Kind.{Kind}
 use Rattle.policy.specs.declared.node.Kind.TheVariants.{Predicate, Policy}
 use Rattle.policy.specs.Shapes.{Shape}
 use Rattle.policy.specs.Shapes.Shape.{n_any}
 use Rattle.policy.specs.Kinds.{kind_of, wanted}
 use Rattle.packet.specs.PortLists.{times}
-use Rattle.policy.specs.Parts.{arity, left_after, parts_from, parts_of, owners, kinds_at, PartsRight}
+use Rattle.policy.specs.Parts.{arity, left_after, parts_from, owners, kinds_at, PartsRight}
 use Rattle.policy.specs.Trees.{Tree, Untaken, add, on, stack_of, trees, only_policy}
 use Rattle.policy.specs.Trees.Tree.{pred, pol}
 use Rattle.policy.proofs.Adding.{Adds, adds, some_before}

@@ -1,5 +1,5 @@
 -- The tree of a policy is the one that its nodes leave untaken.
-use Rattle.std.proofs.Common.{◌≡◌, true, [], ◌∷◌, Some, Option, refl, ap, ◌∙◌}
+use Rattle.std.proofs.Common.{◌≡◌, [], ◌∷◌, Some}
 use Rattle.policy.specs.Roots.{shapes_of, tree_of}
 use Rattle.policy.specs.Trees.{Pol, stack_of}
 use Rattle.policy.specs.Trees.Tree.{pol}

@@ -7,10 +7,9 @@ use Rattle.policy.specs.Shapes.{Shape, shape}
 use Rattle.policy.specs.declared.node.Node.{Node}
 use Rattle.policy.specs.Shapes.Shape.{n_any, n_at, n_is, n_and, n_or, n_not, n_send, n_both, n_keep}
 use Rattle.policy.specs.Meaning.{is_true}
-use Rattle.policy.specs.Trees.{Pred, Pol, Tree, Untaken, stack_of, after}
+use Rattle.policy.specs.Trees.{Pred, Untaken, stack_of, after}
 use Rattle.policy.specs.Trees.Pred.{any, at, test, and, or, not}
-use Rattle.policy.specs.Trees.Pol.{send, both, keep}
-use Rattle.policy.specs.Trees.Tree.{pred, pol}
+use Rattle.policy.specs.Trees.Tree.{pred}
 use Rattle.policy.specs.Walks.{gives, truths_of, starts_of, sends_of, Stands}
 use Rattle.policy.proofs.Adding.{Adds, step_at}
 use Rattle.policy.proofs.Adding.Adds.{adds_any, adds_at, adds_test, adds_and, adds_or, adds_not, adds_send, adds_both, adds_keep}

@@ -1,9 +1,9 @@
 -- What predicates and policies mean, at a switch number and for a packet.
-use Rattle.std.specs.Prelude.{◌≡◌, ℕ, ◌+◌, ◌<◌, Bool, true, false, cond, not as negated, ◌&&◌, ◌||◌, List, length, ◌==◌, slice_index}
+use Rattle.std.specs.Prelude.{◌≡◌, ℕ, ◌+◌, ◌<◌, Bool, true, cond, not as negated, ◌&&◌, ◌||◌, List, length, ◌==◌, slice_index}
 use Rattle.packet.specs.PortLists.{times}
 use Rattle.packet.specs.Tests.{true_of}
 use Rattle.packet.specs.declared.packet.Packet.{Packet}
-use Rattle.policy.specs.Trees.{Pred, Pol, Tree}
+use Rattle.policy.specs.Trees.{Pred, Pol}
 use Rattle.policy.specs.Trees.Pred.{any, at, test, and, or, not}
 use Rattle.policy.specs.Trees.Pol.{send, both, keep}
 

@@ -1,5 +1,5 @@
 -- The nodes of a policy, and the tree that it stands for.
-use Rattle.std.specs.Prelude.{◌≡◌, true, false, List, [], ◌∷◌, map, Some, None, Option}
+use Rattle.std.specs.Prelude.{◌≡◌, true, List, [], ◌∷◌, map, Some, None, Option}
 use Rattle.std.proofs.lemmas.Bool.{false≢true}
 use Rattle.packet.specs.Items.{items_of}
 use Rattle.policy.specs.Shapes.{Shape, shape}

@@ -6,7 +6,7 @@ use Rattle.console.proofs.answers.add_copies.Goals as goal
 
 pub loop-done-preserved : goal.loop-done-preserved
 loop-done-preserved c =
-    repeated_more (string_bytes c.args.list.now) (string_bytes c.push-str.new.self) (string_bytes c.in_ok-word.word) c.loop-done.done (c.in_ok-push-str.ensures.bytes ∙ (λ j. c.loop-done.invariant j ++ c.as-str.ensures.value j))
+    repeated_more (string_bytes c.args.list.now) (string_bytes c.push_str.new.self) (string_bytes c.in_ok-word.word) c.loop-done.done (c.in_ok-push_str.ensures.bytes ∙ (λ j. c.loop-done.invariant j ++ c.as_str.ensures.value j))
 
 pub returns : goal.returns
 returns c =

@@ -7,7 +7,7 @@ use Rattle.console.proofs.answers.list_of.Goals as goal
 pub loop-i-preserved : goal.loop-i-preserved
 loop-i-preserved c =
     let counts = c.args.counts.now in
-    listed_more counts (string_bytes c.loop-i.list) (listed 1 counts) c.loop-i.i c.loop-i.invariant (string_bytes c.add-copies.new.list) c.loop-i-test.true c.in_ok-add-copies.ensures
+    listed_more counts (string_bytes c.loop-i.list) (listed 1 counts) c.loop-i.i c.loop-i.invariant (string_bytes c.add_copies.new.list) c.loop-i-test.true c.in_ok-add_copies.ensures
 
 pub returns : goal.returns
 returns c =

@@ -1,5 +1,5 @@
 -- Each count is the tally of the sends so far.
-use Rattle.std.proofs.Common.{◌≡◌, ℕ, ◌+◌, ◌<◌, map, length, get_or, take}
+use Rattle.std.proofs.Common.{◌≡◌, ℕ, ◌+◌, ◌<◌, map, get_or, take}
 use Rattle.packet.specs.Written.{written}
 use Rattle.policy.specs.Walks.{tally}
 use Rattle.policy.proofs.evaluator.count_sends.Given as goal

@@ -1,5 +1,5 @@
 -- At the end the walk holds the sends of the root that count, and their tally is the policy's copies.
-use Rattle.std.proofs.Common.{◌≡◌, ◌+◌, ◌≤◌, map, length, is_some, sym, ap, ◌∙◌, arith, rules}
+use Rattle.std.proofs.Common.{◌+◌, ◌≤◌, map, length, is_some, ap, ◌∙◌, arith, rules}
 use Rattle.packet.proofs.Pushes.{items_fit}
 use Rattle.packet.specs.Items.{items_of}
 use Rattle.packet.specs.Written.{written}
@@ -32,5 +32,5 @@ returns c = (
       let same = c.nodes-nodes.ensures in
       let past : length (shapes_of policy) ≤ c.loop-i.i = omega (arith, ap length same, length-map c.nodes-nodes.result.now shape) in
       let end = ap (λ l. after l c.loop-i.i) same ∙ at_end policy c.loop-i.i past in
-      c.count-sends.ensures n h ∙ ap (λ l. tally (n + 1) (map written l)) c.as-slice.ensures ∙ ap (tally (n + 1)) (c.loop-i.invariant.sends_are ∙ ap (λ ts. sends_of ts s k) end) ∙ tally_gives (tree_of policy) s k (n + 1),
+      c.count_sends.ensures n h ∙ ap (λ l. tally (n + 1) (map written l)) c.as_slice.ensures ∙ ap (tally (n + 1)) (c.loop-i.invariant.sends_are ∙ ap (λ ts. sends_of ts s k) end) ∙ tally_gives (tree_of policy) s k (n + 1),
 )

@@ -30,7 +30,7 @@ loop-byte-preserved c =
 
 pub returns-in-Err : goal.returns-in-Err
 returns-in-Err c =
-    ap Err c.fault-at.ensures
+    ap Err c.fault_at.ensures
     ∙ (sym (read_refused c.args.text.now c.loop-byte.line c.loop-byte.byte (reading c.loop-byte.state) c.in-Err.cause (reading c.next.new.self)
     (c.in-Err.ensures.goes c.loop-byte.line c.loop-byte.byte)) ∙ c.loop-byte.invariant.2)
 
@@ -41,6 +41,6 @@ returns-in-Ok-finish c =
 
 pub returns-in-Err-finish : goal.returns-in-Err-finish
 returns-in-Err-finish c =
-    ap Err c.fault-at-in-Err-finish.ensures
+    ap Err c.fault_at-in-Err-finish.ensures
     ∙ (ap (at_place c.loop-byte.line c.loop-byte.byte) (sym c.in-Err-finish.ensures)
     ∙ (sym (read_end c.args.text.now c.loop-byte.line c.loop-byte.byte (reading c.loop-byte.state) c.loop-byte-test.false) ∙ c.loop-byte.invariant.2))

@@ -11,8 +11,8 @@ loop-n-preserved c =
     let t : in_word (byte_class (get_or c.args.w.now c.loop-n.n 0)) ≡ true = cc in
     (omega arith, omega (arith, run_more c.args.w.now c.loop-n.n c.loop-n-test.true t))
 
-pub returns-else-stands-in-word : goal.returns-else-stands-in-word
-returns-else-stands-in-word c =
+pub returns-else-stands_in_word : goal.returns-else-stands_in_word
+returns-else-stands_in_word c =
     let t : in_word (byte_class (get_or c.args.w.now c.loop-n.n 0)) ≡ false = cc in
     omega (arith, run_stops c.args.w.now c.loop-n.n c.loop-n-test.true t)
 

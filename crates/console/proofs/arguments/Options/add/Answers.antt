@@ -6,11 +6,11 @@ use Rattle.console.specs.Typed.{Describes}
 use Rattle.console.proofs.Asking.{at_due, one_file_more}
 use Rattle.console.proofs.arguments.Options.add.Goals as goal
 
-pub returns-in_ok-packet-of : goal.returns-in_ok-packet-of
-returns-in_ok-packet-of c =
-    let p = c.in_ok-packet-of.field-0 in
+pub returns-in_ok-packet_of : goal.returns-in_ok-packet_of
+returns-in_ok-packet_of c =
+    let p = c.in_ok-packet_of.field-0 in
     let a = asked c.args.self.now in
-    at_due a (string_bytes c.args.word) (with_packet p a) c.in-Packet.is (p, subst (λ l. Describes l (number p)) c.as-str-in-Packet.ensures.value c.in_ok-packet-of.ensures, refl)
+    at_due a (string_bytes c.args.word) (with_packet p a) c.in-Packet.is (p, subst (λ l. Describes l (number p)) c.as_str-in-Packet.ensures.value c.in_ok-packet_of.ensures, refl)
 
 pub returns-in_ok-push : goal.returns-in_ok-push
 returns-in_ok-push c =

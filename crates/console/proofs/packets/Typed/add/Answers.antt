@@ -15,8 +15,8 @@ returns c =
     let old = c.args.self.now in
     let name = c.in-Some.name in
     let value = c.in-Some.value in
-    let f = c.in-Some-field-of.field in
-    let n = c.in-Some-value-of.number in
+    let f = c.in-Some-field_of.field in
+    let n = c.in-Some-value_of.number in
     let parts = split_parts 61 c.args.word.now (Some (name, value)) c.in-Some.ensures.cases (omega arith) in
     record {
       field = f;
@@ -25,8 +25,8 @@ returns c =
         front = name.now;
         back = value.now;
         cut = parts.0;
-        names = ap named_field (sym c.as-bytes.ensures.value) ∙ sym c.field-of.ensures ∙ c.in-Some-field-of.is;
-        says = ap (λ l. full_value f (test_from f l)) (sym c.as-bytes-2.ensures.value) ∙ sym c.value-of.ensures ∙ c.in-Some-value-of.is;
+        names = ap named_field (sym c.as_bytes.ensures.value) ∙ sym c.field_of.ensures ∙ c.in-Some-field_of.is;
+        says = ap (λ l. full_value f (test_from f l)) (sym c.as_bytes-2.ensures.value) ∙ sym c.value_of.ensures ∙ c.in-Some-value_of.is;
       };
       fresh = ap (λ i. get_or old.given i false) (sym c.place-place.ensures.is) ∙ c.if-self-place.false;
       numbers = ap (λ i. set old.numbers i n) c.place-place.ensures.is;
@@ -38,29 +38,29 @@ returns-in_default c =
     let word = c.args.word.now in
     told_case Told _ (AddsNone word c.args.self.now) c.format.result c.told.result (λ line f n g. absurd (never_whole g c.in_default.ensures.cases)) tt c.told.ensures
 
-pub returns-in_default-field-of : goal.returns-in_default-field-of
-returns-in_default-field-of c =
+pub returns-in_default-field_of : goal.returns-in_default-field_of
+returns-in_default-field_of c =
     let word = c.args.word.now in
-    let none = ap named_field (sym c.as-bytes.ensures.value) ∙ sym c.field-of.ensures ∙ c.in_default-field-of.is in
-    told_case Told _ (AddsNone word c.args.self.now) c.format-in_default-field-of.result c.told-in_default-field-of.result
-    (λ line f n g. absurd (never_unnamed g (c.in-Some.name, c.in-Some.value) c.in-Some.ensures.cases none)) tt c.told-in_default-field-of.ensures
+    let none = ap named_field (sym c.as_bytes.ensures.value) ∙ sym c.field_of.ensures ∙ c.in_default-field_of.is in
+    told_case Told _ (AddsNone word c.args.self.now) c.format-in_default-field_of.result c.told-in_default-field_of.result
+    (λ line f n g. absurd (never_unnamed g (c.in-Some.name, c.in-Some.value) c.in-Some.ensures.cases none)) tt c.told-in_default-field_of.ensures
 
-pub returns-in_default-value-of : goal.returns-in_default-value-of
-returns-in_default-value-of c =
+pub returns-in_default-value_of : goal.returns-in_default-value_of
+returns-in_default-value_of c =
     let word = c.args.word.now in
-    let h = c.in-Some-field-of.field in
-    let named = ap named_field (sym c.as-bytes.ensures.value) ∙ sym c.field-of.ensures ∙ c.in-Some-field-of.is in
-    let none = ap (λ l. full_value h (test_from h l)) (sym c.as-bytes-2.ensures.value) ∙ sym c.value-of.ensures ∙ c.in_default-value-of.is in
-    told_case Told _ (AddsNone word c.args.self.now) c.format-in_default-value-of.result c.told-in_default-value-of.result
-    (λ line f n g. absurd (never_unsaid g (c.in-Some.name, c.in-Some.value) c.in-Some.ensures.cases h named none)) tt c.told-in_default-value-of.ensures
+    let h = c.in-Some-field_of.field in
+    let named = ap named_field (sym c.as_bytes.ensures.value) ∙ sym c.field_of.ensures ∙ c.in-Some-field_of.is in
+    let none = ap (λ l. full_value h (test_from h l)) (sym c.as_bytes-2.ensures.value) ∙ sym c.value_of.ensures ∙ c.in_default-value_of.is in
+    told_case Told _ (AddsNone word c.args.self.now) c.format-in_default-value_of.result c.told-in_default-value_of.result
+    (λ line f n g. absurd (never_unsaid g (c.in-Some.name, c.in-Some.value) c.in-Some.ensures.cases h named none)) tt c.told-in_default-value_of.ensures
 
 pub returns-then-self-place : goal.returns-then-self-place
 returns-then-self-place c =
     let word = c.args.word.now in
     let old = c.args.self.now in
-    let named = ap named_field (sym c.as-bytes.ensures.value) ∙ sym c.field-of.ensures ∙ c.in-Some-field-of.is in
+    let named = ap named_field (sym c.as_bytes.ensures.value) ∙ sym c.field_of.ensures ∙ c.in-Some-field_of.is in
     told_case Told _ (AddsNone word old) c.format-then-self-place.result c.told-then-self-place.result
     (λ line f n g.
-    let same = same_field g (c.in-Some.name, c.in-Some.value) c.in-Some.ensures.cases c.in-Some-field-of.field named in
+    let same = same_field g (c.in-Some.name, c.in-Some.value) c.in-Some.ensures.cases c.in-Some-field_of.field named in
     ap (λ k. get_or old.given (place k) false) same ∙ ap (λ i. get_or old.given i false) (sym c.place-place.ensures.is) ∙ c.if-self-place.true)
     tt c.told-then-self-place.ensures

@@ -5,7 +5,7 @@ use Rattle.console.proofs.sources.Sources.name_of.Goals as goal
 
 pub returns-in-Some : goal.returns-in-Some
 returns-in-Some c =
-    c.as-str.ensures.value
+    c.as_str.ensures.value
     ∙ mapped_there string_bytes c.deref.result.now c.args.file (codes "no file") c.in-Some.name c.in-Some.ensures.lookup
     ∙ ap (λ l. get_or (map string_bytes l) c.args.file (codes "no file")) c.deref.ensures.value
 

@@ -14,6 +14,6 @@ returns c =
     IfOk-weaker c.format-2.result _ _
     (λ line e.
     e
-    ∙ ap (λ n. told c.args.local.now ++ (codes " (" ++ (n ++ (codes "; line " ++ (decimal whole.line ++ (codes ", byte " ++ (decimal whole.byte ++ codes " of the whole text)"))))))) c.name-of-name.ensures
+    ∙ ap (λ n. told c.args.local.now ++ (codes " (" ++ (n ++ (codes "; line " ++ (decimal whole.line ++ (codes ", byte " ++ (decimal whole.byte ++ codes " of the whole text)"))))))) c.name_of-name.ensures
     ∙ ap (λ b. told c.args.local.now ++ cond b (codes " (" ++ (file_name s file ++ codes ")")) (codes " (" ++ (file_name s file ++ (codes "; line " ++ (decimal whole.line ++ (codes ", byte " ++ (decimal whole.byte ++ codes " of the whole text)"))))))) (sym several))
     c.format-2.ensures.ok

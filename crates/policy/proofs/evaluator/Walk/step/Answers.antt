@@ -1,5 +1,5 @@
 -- Each arm of the walk's step, by the turn of its node.
-use Rattle.std.proofs.Common.{◌≡◌, ℕ, ◌+◌, true, false, cond, List, [], ◌∷◌, ◌++◌, map, length, take, sym, refl, ap, ◌∙◌, subst, append-nil, arith, lit<}
+use Rattle.std.proofs.Common.{ℕ, ◌+◌, true, false, List, [], ◌∷◌, ◌++◌, map, sym, refl, ap, ◌∙◌, append-nil, arith, lit<}
 use Rattle.policy.specs.declared.evaluator.Walk.{Walk}
 use Rattle.packet.specs.declared.packet.Packet.{Packet}
 use Rattle.policy.specs.declared.node.Node.{Node}
@@ -58,49 +58,49 @@ put-requires-in-Is c =
     let t = test_here (goal.at.put-requires-in-Is c).In-Is in
     (lit< tt, omega (arith))
 
-pub take-last-a-requires : goal.take-last-a-requires
-take-last-a-requires c =
-    let t = not_here (goal.at.take-last-a-requires c).In-Not in
+pub take_last-a-requires : goal.take_last-a-requires
+take_last-a-requires c =
+    let t = not_here (goal.at.take_last-a-requires c).In-Not in
     (lit< tt, omega (arith))
 
 pub put-requires-in-Not : goal.put-requires-in-Not
 put-requires-in-Not c =
     let t = not_here (goal.at.put-requires-in-Not c).In-Not in
-    (lit< tt, omega (arith, pushed (items_of c.take-last-a.new.list) c.take-last-a.result c.take-last-a.ensures))
+    (lit< tt, omega (arith, pushed (items_of c.take_last-a.new.list) c.take_last-a.result c.take_last-a.ensures))
 
-pub take-last-b-requires : goal.take-last-b-requires
-take-last-b-requires c =
-    let t = and_here (goal.at.take-last-b-requires c).In-And in
+pub take_last-b-requires : goal.take_last-b-requires
+take_last-b-requires c =
+    let t = and_here (goal.at.take_last-b-requires c).In-And in
     (lit< tt, omega (arith))
 
-pub take-last-a-requires-in-And : goal.take-last-a-requires-in-And
-take-last-a-requires-in-And c =
-    let t = and_here (goal.at.take-last-a-requires-in-And c).In-And in
-    (lit< tt, omega (arith, pushed (items_of c.take-last-b.new.list) c.take-last-b.result c.take-last-b.ensures))
+pub take_last-a-requires-in-And : goal.take_last-a-requires-in-And
+take_last-a-requires-in-And c =
+    let t = and_here (goal.at.take_last-a-requires-in-And c).In-And in
+    (lit< tt, omega (arith, pushed (items_of c.take_last-b.new.list) c.take_last-b.result c.take_last-b.ensures))
 
 pub put-requires-in-And : goal.put-requires-in-And
 put-requires-in-And c =
     let t = and_here (goal.at.put-requires-in-And c).In-And in
-    (lit< tt, omega (arith, pushed (items_of c.take-last-b.new.list) c.take-last-b.result c.take-last-b.ensures, pushed (items_of c.take-last-a-in-And.new.list) c.take-last-a-in-And.result c.take-last-a-in-And.ensures))
+    (lit< tt, omega (arith, pushed (items_of c.take_last-b.new.list) c.take_last-b.result c.take_last-b.ensures, pushed (items_of c.take_last-a-in-And.new.list) c.take_last-a-in-And.result c.take_last-a-in-And.ensures))
 
-pub take-last-b-requires-in-Or : goal.take-last-b-requires-in-Or
-take-last-b-requires-in-Or c =
-    let t = or_here (goal.at.take-last-b-requires-in-Or c).In-Or in
+pub take_last-b-requires-in-Or : goal.take_last-b-requires-in-Or
+take_last-b-requires-in-Or c =
+    let t = or_here (goal.at.take_last-b-requires-in-Or c).In-Or in
     (lit< tt, omega (arith))
 
-pub take-last-a-requires-in-Or : goal.take-last-a-requires-in-Or
-take-last-a-requires-in-Or c =
-    let t = or_here (goal.at.take-last-a-requires-in-Or c).In-Or in
-    (lit< tt, omega (arith, pushed (items_of c.take-last-b-in-Or.new.list) c.take-last-b-in-Or.result c.take-last-b-in-Or.ensures))
+pub take_last-a-requires-in-Or : goal.take_last-a-requires-in-Or
+take_last-a-requires-in-Or c =
+    let t = or_here (goal.at.take_last-a-requires-in-Or c).In-Or in
+    (lit< tt, omega (arith, pushed (items_of c.take_last-b-in-Or.new.list) c.take_last-b-in-Or.result c.take_last-b-in-Or.ensures))
 
 pub put-requires-in-Or : goal.put-requires-in-Or
 put-requires-in-Or c =
     let t = or_here (goal.at.put-requires-in-Or c).In-Or in
-    (lit< tt, omega (arith, pushed (items_of c.take-last-b-in-Or.new.list) c.take-last-b-in-Or.result c.take-last-b-in-Or.ensures, pushed (items_of c.take-last-a-in-Or.new.list) c.take-last-a-in-Or.result c.take-last-a-in-Or.ensures))
+    (lit< tt, omega (arith, pushed (items_of c.take_last-b-in-Or.new.list) c.take_last-b-in-Or.result c.take_last-b-in-Or.ensures, pushed (items_of c.take_last-a-in-Or.new.list) c.take_last-a-in-Or.result c.take_last-a-in-Or.ensures))
 
-pub take-last-counts-requires : goal.take-last-counts-requires
-take-last-counts-requires c =
-    let t = send_here (goal.at.take-last-counts-requires c).In-Send in
+pub take_last-counts-requires : goal.take_last-counts-requires
+take_last-counts-requires c =
+    let t = send_here (goal.at.take_last-counts-requires c).In-Send in
     (lit< tt, omega (arith))
 
 pub put-requires-in-Send : goal.put-requires-in-Send
@@ -113,24 +113,24 @@ put-requires-then-counts c =
     let t = send_here (goal.at.put-requires-then-counts c).In-Send in
     (lit< tt, omega (arith, t.room, length-map (items_of c.args.self.now.sends) written))
 
-pub take-last-requires : goal.take-last-requires
-take-last-requires c =
-    let t = both_here (goal.at.take-last-requires c).In-Both in
+pub take_last-requires : goal.take_last-requires
+take_last-requires c =
+    let t = both_here (goal.at.take_last-requires c).In-Both in
     (lit< tt, omega (arith))
 
-pub take-last-start-requires : goal.take-last-start-requires
-take-last-start-requires c =
-    let t = keep_here (goal.at.take-last-start-requires c).In-Keep in
+pub take_last-start-requires : goal.take_last-start-requires
+take_last-start-requires c =
+    let t = keep_here (goal.at.take_last-start-requires c).In-Keep in
     (lit< tt, omega (arith))
 
 pub put-requires-in-Keep : goal.put-requires-in-Keep
 put-requires-in-Keep c =
     let t = keep_here (goal.at.put-requires-in-Keep c).In-Keep in
-    (lit< tt, omega (arith, pushed (items_of c.take-last-start.new.list) c.take-last-start.result c.take-last-start.ensures))
+    (lit< tt, omega (arith, pushed (items_of c.take_last-start.new.list) c.take_last-start.result c.take_last-start.ensures))
 
-pub take-last-counts-requires-in-Keep : goal.take-last-counts-requires-in-Keep
-take-last-counts-requires-in-Keep c =
-    let t = keep_here (goal.at.take-last-counts-requires-in-Keep c).In-Keep in
+pub take_last-counts-requires-in-Keep : goal.take_last-counts-requires-in-Keep
+take_last-counts-requires-in-Keep c =
+    let t = keep_here (goal.at.take_last-counts-requires-in-Keep c).In-Keep in
     (lit< tt, omega (arith))
 
 pub returns-in-Any : goal.returns-in-Any
@@ -151,41 +151,41 @@ returns-in-Is c =
 pub returns-in-Not : goal.returns-in-Not
 returns-in-Not c =
     let t = not_here (goal.at.returns-in-Not c).In-Not in
-    not_turn c.args.switch c.args.packet.now (items_of c.take-last-a.new.list) c.take-last-a.result t.added c.requires.stands c.take-last-a.ensures c.put-in-Not.ensures
+    not_turn c.args.switch c.args.packet.now (items_of c.take_last-a.new.list) c.take_last-a.result t.added c.requires.stands c.take_last-a.ensures c.put-in-Not.ensures
 
 pub returns-in-And : goal.returns-in-And
 returns-in-And c =
     let t = and_here (goal.at.returns-in-And c).In-And in
-    and_turn c.args.switch c.args.packet.now (items_of c.take-last-b.new.list) (items_of c.take-last-a-in-And.new.list) c.take-last-a-in-And.result c.take-last-b.result t.added c.requires.stands c.take-last-b.ensures c.take-last-a-in-And.ensures c.put-in-And.ensures refl
+    and_turn c.args.switch c.args.packet.now (items_of c.take_last-b.new.list) (items_of c.take_last-a-in-And.new.list) c.take_last-a-in-And.result c.take_last-b.result t.added c.requires.stands c.take_last-b.ensures c.take_last-a-in-And.ensures c.put-in-And.ensures refl
 
 pub returns-in-Or : goal.returns-in-Or
 returns-in-Or c =
     let t = or_here (goal.at.returns-in-Or c).In-Or in
-    or_turn c.args.switch c.args.packet.now (items_of c.take-last-b-in-Or.new.list) (items_of c.take-last-a-in-Or.new.list) c.take-last-a-in-Or.result c.take-last-b-in-Or.result t.added c.requires.stands c.take-last-b-in-Or.ensures c.take-last-a-in-Or.ensures c.put-in-Or.ensures refl
+    or_turn c.args.switch c.args.packet.now (items_of c.take_last-b-in-Or.new.list) (items_of c.take_last-a-in-Or.new.list) c.take_last-a-in-Or.result c.take_last-b-in-Or.result t.added c.requires.stands c.take_last-b-in-Or.ensures c.take_last-a-in-Or.ensures c.put-in-Or.ensures refl
 
 pub returns-then-counts : goal.returns-then-counts
 returns-then-counts c =
     let t = send_here (goal.at.returns-then-counts c).In-Send in
     let start = c.put-in-Send.ensures ∙ ap (λ n. items_of c.args.self.now.starts ++ n ∷ []) (c.len.ensures ∙ sym (length-map (items_of c.args.self.now.sends) written)) in
-    send_turn c.args.switch c.args.packet.now (items_of c.take-last-counts.new.list) true t.added c.requires.stands c.if-counts.ensures start (ap (map written) c.put-then-counts.ensures ∙ map_push written (items_of c.args.self.now.sends) c.in-Send.ports)
+    send_turn c.args.switch c.args.packet.now (items_of c.take_last-counts.new.list) true t.added c.requires.stands c.if-counts.ensures start (ap (map written) c.put-then-counts.ensures ∙ map_push written (items_of c.args.self.now.sends) c.in-Send.ports)
 
 pub returns-else-counts : goal.returns-else-counts
 returns-else-counts c =
     let t = send_here (goal.at.returns-else-counts c).In-Send in
     let start = c.put-in-Send.ensures ∙ ap (λ n. items_of c.args.self.now.starts ++ n ∷ []) (c.len.ensures ∙ sym (length-map (items_of c.args.self.now.sends) written)) in
-    send_turn c.args.switch c.args.packet.now (items_of c.take-last-counts.new.list) false t.added c.requires.stands c.if-counts.ensures start (sym (append-nil (map written (items_of c.args.self.now.sends))))
+    send_turn c.args.switch c.args.packet.now (items_of c.take_last-counts.new.list) false t.added c.requires.stands c.if-counts.ensures start (sym (append-nil (map written (items_of c.args.self.now.sends))))
 
 pub returns-in-Both : goal.returns-in-Both
 returns-in-Both c =
     let t = both_here (goal.at.returns-in-Both c).In-Both in
-    both_turn c.args.switch c.args.packet.now (items_of c.take-last.new.list) c.take-last.result t.added c.requires.stands c.take-last.ensures
+    both_turn c.args.switch c.args.packet.now (items_of c.take_last.new.list) c.take_last.result t.added c.requires.stands c.take_last.ensures
 
 pub returns-then-not-counts : goal.returns-then-not-counts
 returns-then-not-counts c =
     let t = keep_here (goal.at.returns-then-not-counts c).In-Keep in
-    keep_turn c.args.switch c.args.packet.now (items_of c.take-last-counts-in-Keep.new.list) false (items_of c.take-last-start.new.list) c.take-last-start.result t.added c.requires.stands c.if-not-counts.ensures c.take-last-start.ensures c.put-in-Keep.ensures (ap (map written) c.truncate.ensures ∙ sym (take-map written c.take-last-start.result (items_of c.args.self.now.sends)))
+    keep_turn c.args.switch c.args.packet.now (items_of c.take_last-counts-in-Keep.new.list) false (items_of c.take_last-start.new.list) c.take_last-start.result t.added c.requires.stands c.if-not-counts.ensures c.take_last-start.ensures c.put-in-Keep.ensures (ap (map written) c.truncate.ensures ∙ sym (take-map written c.take_last-start.result (items_of c.args.self.now.sends)))
 
 pub returns-else-not-counts : goal.returns-else-not-counts
 returns-else-not-counts c =
     let t = keep_here (goal.at.returns-else-not-counts c).In-Keep in
-    keep_turn c.args.switch c.args.packet.now (items_of c.take-last-counts-in-Keep.new.list) true (items_of c.take-last-start.new.list) c.take-last-start.result t.added c.requires.stands c.if-not-counts.ensures c.take-last-start.ensures c.put-in-Keep.ensures refl
+    keep_turn c.args.switch c.args.packet.now (items_of c.take_last-counts-in-Keep.new.list) true (items_of c.take_last-start.new.list) c.take_last-start.result t.added c.requires.stands c.if-not-counts.ensures c.take_last-start.ensures c.put-in-Keep.ensures refl

@@ -1,7 +1,7 @@
 -- The two nodes leave send of any to no ports.
 use Rattle.std.proofs.Common.{◌≡◌, Bool, List, [], ◌∷◌, ◌++◌, map, length, ap, ◌∙◌, arith}
 use Rattle.packet.proofs.Pushes.{push_goes}
-use Rattle.packet.specs.Items.{items_of, Pushed}
+use Rattle.packet.specs.Items.{Pushed}
 use Rattle.packet.specs.Written.{written}
 use Rattle.packet.specs.declared.ports.Ports.{Ports}
 use Rattle.policy.specs.Shapes.{shape}

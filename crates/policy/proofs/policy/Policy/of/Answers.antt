@@ -8,4 +8,4 @@ use Rattle.policy.proofs.policy.Policy.of.Goals as goal
 pub invariant_of-result : goal.invariant_of-result
 invariant_of-result c =
     let p = parts_right (map shape (items_of c.args.nodes)) c.requires in
-    (c.requires, (p.below, (p.once, (∣ p.kinds ∣₁, (∣ p.root ∣₁, tt)))))
+    record { sound = c.requires; below = p.below; once = p.once; kinds = ∣ p.kinds ∣₁; root = ∣ p.root ∣₁ }
