@@ -2,7 +2,6 @@
 use Rattle.std.proofs.Common.{◌≡◌, ℕ, ◌+◌, List, [], ◌∷◌, ◌++◌, Ok, Err, Result, sym, refl, ap, ◌∙◌, subst, arith}
 use Rattle.packet.specs.declared.fault.Fault.{Fault}
 use Rattle.packet.specs.declared.fault.ReaderCause.{ReaderCause}
-use Rattle.packet.specs.declared.fault.ReaderCause.TheVariants.{Word}
 use Rattle.text.specs.Dues.{Due}
 use Rattle.text.specs.Places.{NothingWrong, Stops, WrongNext}
 use Rattle.text.specs.Steps.{Reading, and_then}

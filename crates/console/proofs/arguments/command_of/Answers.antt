@@ -51,5 +51,5 @@ pub returns-in_err-add : goal.returns-in_err-add
 returns-in_err-add c =
     let a = asked c.loop-word.options in
     let stops = stops_here a (asked c.new-options.result) c.in-Some.word c.loop-word.invariant.1 c.new-options.ensures c.into-iter-word-iterator.ensures.into-iter-gives.0 c.in-Some.ensures.steps.0 in
-    let p = err_from_is_err_and c.from-residual.result c.from-residual.ensures.1 in
+    let p = err_from_is_err_and c.from_residual.result c.from_residual.ensures.1 in
     rw (p.1, p.2) (because _ _ (λ stuck. inl (stops stuck)) c.in_err-add.field-0.0 c.in_err-add.ensures)

@@ -24,7 +24,7 @@ pub returns-in_err-add : goal.returns-in_err-add
 returns-in_err-add c =
     let first = first_of _ c.in-Some.word.now _ c.in-Some.ensures.steps in
     let none = rw c.in-Some.word-is at c.in_err-add.ensures in
-    let p = err_from_is_err_and c.from-residual.result c.from-residual.ensures.1 in
+    let p = err_from_is_err_and c.from_residual.result c.from_residual.ensures.1 in
     rw (p.1, p.2) (wrong_word c.loop-word.invariant first _ none)
 
 pub returns-in-Err : goal.returns-in-Err

@@ -17,13 +17,13 @@ loop-byte-preserved c =
     let b : ℕ = get_or c.args.text.now c.loop-byte.byte 0 in
     let line : c.if-text-byte-eq10.line ≡ c.loop-byte.line + cond (eqb b 10) 1 0 =
     elim c.if-text-byte-eq10.branch [
-      | then-text-byte-eq10 w ↦ w.line_is ∙ ap (λ k. c.loop-byte.line + k) (sym (cond-true (eqb b 10) 1 0 (eq-eqb b 10 w.if-text-byte-eq10.true)))
-      | else-text-byte-eq10 w ↦ w.line_is ∙ (sym (add-zero c.loop-byte.line) ∙ ap (λ k. c.loop-byte.line + k) (sym (cond-false (eqb b 10) 1 0 (ne_eqb b 10 w.if-text-byte-eq10.false))))
+      | then-text-byte-eq10 w ↦ w.line-is ∙ ap (λ k. c.loop-byte.line + k) (sym (cond-true (eqb b 10) 1 0 (eq-eqb b 10 w.if-text-byte-eq10.true)))
+      | else-text-byte-eq10 w ↦ w.line-is ∙ (sym (add-zero c.loop-byte.line) ∙ ap (λ k. c.loop-byte.line + k) (sym (cond-false (eqb b 10) 1 0 (ne_eqb b 10 w.if-text-byte-eq10.false))))
     ] in
     let in-text = c.in-Ok.ensures.within.1 in
     let more = c.in-Ok.ensures.within.0 in (
       omega (arith, ap length (take_rest c.args.text.now c.loop-byte.byte), length-drop c.loop-byte.byte c.args.text.now),
-      elim c.if-text-byte-eq10.branch [ then-text-byte-eq10 w ↦ omega (arith, w.line_is) | else-text-byte-eq10 w ↦ omega (arith, w.line_is) ],
+      elim c.if-text-byte-eq10.branch [ then-text-byte-eq10 w ↦ omega (arith, w.line-is) | else-text-byte-eq10 w ↦ omega (arith, w.line-is) ],
       sym (read_past c.args.text.now c.loop-byte.line c.loop-byte.byte (reading c.loop-byte.state) c.in-Ok.n c.if-text-byte-eq10.line (reading c.next.new.self)
           (c.in-Ok.ensures.goes c.loop-byte.line c.loop-byte.byte) line) ∙ c.loop-byte.invariant.2,
     )

@@ -10,7 +10,7 @@ use Rattle.text.proofs.reader.read.Goals as goal
 
 pub returns-in_err-nodes : goal.returns-in_err-nodes
 returns-in_err-nodes c =
-    let p = err_from_is_err_and c.from-residual.result c.from-residual.ensures.1 in
+    let p = err_from_is_err_and c.from_residual.result c.from_residual.ensures.1 in
     let text = c.args.text.now in
     let e = sym c.in_err-nodes.ensures in
     rw (p.1, p.2) (record { answer = refused _ text c.args.place.now e; grammar = writes_nothing _ text e })

@@ -26,7 +26,7 @@ pub returns-in_err-add_node : goal.returns-in_err-add_node
 returns-in_err-add_node c =
     let s = c.args.self.now in
     let left = c.pop.new.self in
-    let p = err_from_is_err_and c.from-residual.result c.from-residual.ensures.1 in
+    let p = err_from_is_err_and c.from_residual.result c.from_residual.ensures.1 in
     rw (p.1, p.2) (close_with (reading s) (due_of c.in-Some.d) (newest left) (ap (map due_of) (newest_pop s.brackets left c.in-Some.d c.in-Some.ensures)) (shape c.in-Some-node_of.n) (Err c.in_err-add_node.field-0.0) c.in-Some-node_of.ensures c.in_err-add_node.ensures)
 
 pub returns-then-len-gt0 : goal.returns-then-len-gt0

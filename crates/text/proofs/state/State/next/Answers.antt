@@ -11,7 +11,7 @@ slice_bounds-take-end c = omega (arith, (item_within c.args.rest.now c.requires)
 
 pub returns-in_err-take : goal.returns-in_err-take
 returns-in_err-take c =
-    let p = err_from_is_err_and c.from-residual.result c.from-residual.ensures.1 in
+    let p = err_from_is_err_and c.from_residual.result c.from_residual.ensures.1 in
     rw (p.1, p.2) (record { within = tt; goes = λ line byte. goes_on line byte (reading c.args.self.now) c.args.rest.now c.class_of-class.result c.item_len-n.result (Err c.in_err-take.field-0.0) c.requires c.class_of-class.ensures c.item_len-n.ensures c.in_err-take.ensures })
 
 pub returns : goal.returns

@@ -18,7 +18,7 @@ pub returns-in_err-next : goal.returns-in_err-next
 returns-in_err-next c =
     let s = c.args.self.now in
     let left = c.pop.new.self in
-    let p = err_from_is_err_and c.from-residual.result c.from-residual.ensures.1 in
+    let p = err_from_is_err_and c.from_residual.result c.from_residual.ensures.1 in
     rw (p.1, p.2) (word_with (reading s) (due_of c.in-Some.d) (newest left) (ap (map due_of) (newest_pop s.brackets left c.in-Some.d c.in-Some.ensures)) _ (Err c.in_err-next.field-0.0) c.in_err-next.ensures)
 
 pub returns : goal.returns
