@@ -1,7 +1,7 @@
 -- The ports of a line, one after another.
-use Rattle.std.proofs.Common.{◌≡◌, ℕ, suc, ◌+◌, ◌<◌, ◌≤◌, List, [], ◌∷◌, ◌++◌, length, get_or, drop, codes, decimal, sym, refl, ap, ◌∙◌, append_assoc, append-nil, add-one}
+use Rattle.std.proofs.Common.{◌≡◌, ℕ, ◌+◌, ◌<◌, ◌≤◌, List, ◌++◌, length, get_or, drop, codes, decimal, sym, refl, ap, ◌∙◌, append_assoc, append-nil, add-one}
 use Rattle.std.proofs.lemmas.List.{drop_more, drop_all}
-use Rattle.console.specs.Lines.{repeated, listed, or_none}
+use Rattle.console.specs.Lines.{repeated, listed}
 
 pub repeated_more : (old grown word : List ℕ) (n : ℕ) → grown ≡ (old ++ repeated n word) ++ word → grown ≡ old ++ repeated (n + 1) word
 repeated_more old grown word n e = e ∙ append_assoc old (repeated n word) word ∙ ap (λ l. old ++ l) (rw add-one refl)

@@ -1,5 +1,5 @@
 -- Each turn adds the port's word once more.
-use Rattle.std.proofs.Common.{◌≡◌, ◌++◌, string_bytes, ap, ◌∙◌, arith}
+use Rattle.std.proofs.Common.{◌≡◌, ◌++◌, string_bytes, ◌∙◌, arith}
 use Rattle.console.specs.Lines.{repeated}
 use Rattle.console.proofs.Listing.{repeated_more}
 use Rattle.console.proofs.answers.add_copies.Goals as goal

@@ -1,5 +1,5 @@
 -- The nodes that are counted are those of the tree that the text writes.
-use Rattle.std.proofs.Common.{◌≡◌, length, sym, ap, ◌∙◌}
+use Rattle.std.proofs.Common.{length, sym, ap, ◌∙◌}
 use Rattle.std.proofs.lemmas.List.{length-map}
 use Rattle.policy.specs.Roots.{tree_of}
 use Rattle.policy.specs.Shapes.{shape}

@@ -1,5 +1,5 @@
 -- Each turn adds one port, and at the end all are listed.
-use Rattle.std.proofs.Common.{◌≡◌, ◌+◌, ◌++◌, drop, string_bytes, ap, ◌∙◌}
+use Rattle.std.proofs.Common.{string_bytes}
 use Rattle.console.specs.Lines.{listed}
 use Rattle.console.proofs.Listing.{listed_more, listed_all}
 use Rattle.console.proofs.answers.list_of.Goals as goal

@@ -10,7 +10,7 @@ use Rattle.console.proofs.Typing.{first_of, no_words, one_more, described, wrong
 use Rattle.console.proofs.packets.packet_of.Goals as goal
 
 pub loop-word-init : goal.loop-word-init
-loop-word-init c = no_words _ _ _ refl refl (ap split_whitespace_rest c.into-iter-word-iterator.ensures.into-iter-gives ∙ c.split_whitespace-word-items.ensures.rest)
+loop-word-init c = no_words _ _ _ refl refl (ap split_whitespace_rest c.into_iter-word-iterator.ensures.into_iter_gives ∙ c.split_whitespace-word-items.ensures.rest)
 
 pub loop-word-preserved : goal.loop-word-preserved
 loop-word-preserved c =

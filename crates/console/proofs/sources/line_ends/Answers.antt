@@ -13,7 +13,7 @@ loop-b-preserved c =
     elim c.if-b-eq10.branch [
       | then-b-eq10 w ↦
           let one = more ∙ ap (λ t. cond t 1 0 + line_ends (drop (i + 1) bytes)) (eq-eqb (get_or bytes i 0) 10 w.if-b-eq10.true) in
-          (omega (arith, one, w.n-is, w.saturating_add-n.ensures, c.well-formed), omega (arith, w.n-is, w.saturating_add-n.ensures, c.well-formed))
+          (omega (arith, one, w.n-is, w.saturating_add-n.ensures, c.well_formed), omega (arith, w.n-is, w.saturating_add-n.ensures, c.well_formed))
       | else-b-eq10 w ↦
           let none = more ∙ ap (λ t. cond t 1 0 + line_ends (drop (i + 1) bytes)) (ne_eqb (get_or bytes i 0) 10 w.if-b-eq10.false) in
           (omega (arith, none, w.n-is), omega (arith, w.n-is))

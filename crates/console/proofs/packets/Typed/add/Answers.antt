@@ -1,5 +1,5 @@
 -- A word is added exactly where it gives a number to a field that has none.
-use Rattle.std.proofs.Common.{◌≡◌, true, false, get_or, set, Some, sym, ap, ◌∙◌, arith}
+use Rattle.std.proofs.Common.{true, false, get_or, set, Some, sym, ap, ◌∙◌, arith}
 use Rattle.std.proofs.lemmas.Str.Pattern.{split_parts}
 use Rattle.text.specs.Heads.{named_field}
 use Rattle.text.specs.Values.{test_from, full_value}

@@ -1,6 +1,6 @@
 -- The file's bytes are added, and a line end where they have none.
-use Rattle.std.proofs.Common.{◌≡◌, true, false, cond, [], ◌∷◌, ◌++◌, vec_items, sym, refl, ap, ◌∙◌, append_assoc}
-use Rattle.console.specs.Texts.{text_of, ends_line}
+use Rattle.std.proofs.Common.{cond, [], ◌∷◌, ◌++◌, sym, ap, ◌∙◌, append_assoc}
+use Rattle.console.specs.Texts.{text_of}
 use Rattle.console.proofs.sources.Sources.add.Goals as goal
 use Rattle.console.proofs.sources.Sources.add.Goals.{then-not-has_line_end+in_ok-push-3, else-not-has_line_end}
 

@@ -1,5 +1,5 @@
 -- With several files the line has the place in the whole text too.
-use Rattle.std.proofs.Common.{◌≡◌, false, cond, eqb, ◌++◌, vec_len, codes, decimal, sym, ap, ◌∙◌, arith, ne_eqb}
+use Rattle.std.proofs.Common.{◌≡◌, false, cond, eqb, ◌++◌, vec_len, codes, decimal, sym, ap, ◌∙◌, ne_eqb}
 use Rattle.std.proofs.lemmas.Result.{IfOk-weaker}
 use Rattle.packet.specs.Telling.{told}
 use Rattle.console.specs.Texts.{file_name}
