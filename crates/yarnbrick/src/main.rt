@@ -2,7 +2,8 @@
 #![tactic(auto)]
 
 use console::{Command, Failure, Sources};
-use std::{env, fs};
+use std::process::ExitCode;
+use std::{env, fs, io};
 
 /// The files, as one text.
 fn gather(rt: &HostRuntime, files: Vec<String>) -> Result<Sources, Failure> {
@@ -43,15 +44,15 @@ fn answer(rt: &HostRuntime) -> Result<String, Failure> {
     }
 }
 
-fn main(rt: HostRuntime) -> Result<(), Failure> {
+fn main(rt: HostRuntime) -> io::Result<ExitCode> {
     match answer(&rt) {
         Ok(text) => {
-            rt.println(text)?;
-            Ok(())
+            println!(rt; "{text}")?;
+            Ok(ExitCode::SUCCESS)
         }
         Err(failure) => {
             eprintln!(rt; "{failure}")?;
-            Err(failure)
+            Ok(ExitCode::FAILURE)
         }
     }
 }
