@@ -1,5 +1,5 @@
 -- Packets as people type them: words FIELD=V.
-use Rattle.std.specs.Prelude.{◌≡◌, ℕ, true, false, ◌⊎◌, List, [], ◌∷◌, ◌++◌, get_or, Some, ◌≢◌, slice_index_or, slice_set}
+use Rattle.std.specs.Prelude.{◌≡◌, ℕ, true, false, ◌⊎◌, List, [], ◌∷◌, ◌++◌, Some, ◌≢◌, slice_index_or, slice_set}
 use Rattle.packet.specs.Fields.{Numbers, lawful, place}
 use Rattle.packet.specs.declared.field.Field.{Field}
 use Rattle.text.specs.Heads.{named_field}
@@ -48,7 +48,7 @@ pub record Adds (word : List ℕ) (old new : Typed) : Type 0 where
   pub field : Field
   pub number : ℕ
   pub gives : Gives word field number
-  pub fresh : get_or old.given (place field) false ≡ false
+  pub fresh : slice_index_or old.given (place field) false ≡ false
   pub numbers : new.numbers ≡ slice_set old.numbers (place field) number
   pub given : new.given ≡ slice_set old.given (place field) true
 

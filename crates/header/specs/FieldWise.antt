@@ -142,14 +142,14 @@ module _ {C : Type 0} (cell : Cell C) (laws : CellLaws cell) where
     escaped_there : (f : Field) (x : ℕ) → allowed f x ≡ true → cell.takes f (q f) x ≡ true → cell.takes f (p f) x ≡ false → exists (picked q) f ≡ true → Escaped
     escaped_there f x small into out there =
         let n : Numbers = put (picked q) f x in
-        let allowed-n : (g : Field) → allowed g (n g) ≡ true = put_each (λ g y. allowed g y ≡ true) (picked q) f x small (picked_allowed q mq) in
-        let taken-n : (g : Field) → cell.takes g (q g) (n g) ≡ true = put_each (λ g y. cell.takes g (q g) y ≡ true) (picked q) f x into (picked_taken q mq) in
-        let zero-n : (g : Field) → cell.stated (q g) ≡ false → exists n g ≡ false → n g ≡ 0 =
+        let allowed_n : (g : Field) → allowed g (n g) ≡ true = put_each (λ g y. allowed g y ≡ true) (picked q) f x small (picked_allowed q mq) in
+        let taken_n : (g : Field) → cell.takes g (q g) (n g) ≡ true = put_each (λ g y. cell.takes g (q g) y ≡ true) (picked q) f x into (picked_taken q mq) in
+        let zero_n : (g : Field) → cell.stated (q g) ≡ false → exists n g ≡ false → n g ≡ 0 =
         put_each (λ g y. cell.stated (q g) ≡ false → exists n g ≡ false → y ≡ 0) (picked q) f x
         (λ s none. absurd (both_ways (exists n f) none (put_exists (picked q) f x ∙ there)))
         (λ g s none. unfold picked in laws.pick_blank g (q g) s) in (
-          packet_of n (lawful_taken q mq n allowed-n taken-n zero-n),
-          every_from (λ g. cell.takes g (q g) (n g)) taken-n,
+          packet_of n (lawful_taken q mq n allowed_n taken_n zero_n),
+          every_from (λ g. cell.takes g (q g) (n g)) taken_n,
           every_not (λ g. cell.takes g (p g) (n g)) f (ap (cell.takes f (p f)) (put_same (picked q) f x) ∙ out),
         )
 

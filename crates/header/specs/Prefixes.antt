@@ -112,9 +112,9 @@ module _ (f : Field) (c d : Prefix) (sc : sized f c ≡ true) (sd : sized f d �
       let whole = eqb-true _ _ h2.0 in
       longer_by (λ e. fixes f e v ≡ true) c d (λ _. h)
       (λ more.
-      let all-of-c : c.length ≡ width f = omega (arith, whole, short f c sc) in
+      let all_of_c : c.length ≡ width f = omega (arith, whole, short f c sc) in
       let same : first_bits f (width f) c.value ≡ first_bits f (width f) d.value = agreeing a (width f) (omega arith) (omega arith) in
-      and_from _ _ (eq-eqb _ _ all-of-c) (eq-eqb _ _ (sym (all_bits (width f) c.value) ∙ same ∙ all_bits (width f) d.value ∙ eqb-true _ _ h2.1)))
+      and_from _ _ (eq-eqb _ _ all_of_c) (eq-eqb _ _ (sym (all_bits (width f) c.value) ∙ same ∙ all_bits (width f) d.value ∙ eqb-true _ _ h2.1)))
 
 module _ (f : Field) (c d : Prefix) (sc : sized f c ≡ true) (sd : sized f d ≡ true) where
   both_takes : (x : ℕ) → agree f c d ≡ true → takes f (longer c d) x ≡ (takes f c x && takes f d x)

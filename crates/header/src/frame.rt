@@ -1,7 +1,7 @@
 ghost use Rattle.std.specs.Prelude.{◌≡◌};
 ghost use Rattle.header.specs.Cells.{agrees_all};
 ghost use Rattle.header.specs.Frames.{takes, agree, either, exact, at, frame_kind};
-ghost use Rattle.header.specs.Frames.{covers as covers-cell};
+ghost use Rattle.header.specs.Frames.{covers as covers_cell};
 ghost use Rattle.header.specs.FrameLaws.{frame_laws};
 
 use crate::kind::HeaderKind;
@@ -64,7 +64,7 @@ fn either_cell(a: Option<u64>, b: Option<u64>) -> Option<u64>
 
 /// Whether the first takes whatever the second takes.
 fn cell_covers(a: Option<u64>, b: Option<u64>) -> bool
-    ensures { result ≡ covers-cell a b }
+    ensures { result ≡ covers_cell a b }
 {
     match (a, b) {
         (None, _) => true,

@@ -1,6 +1,6 @@
 ghost use Rattle.std.specs.Prelude.{◌≡◌, ◌-◌, ◌/◌, ◌^◌, ◌==◌};
 ghost use Rattle.header.specs.Routes.{takes, agree, longer, route_kind};
-ghost use Rattle.header.specs.Routes.{covers as covers-cell};
+ghost use Rattle.header.specs.Routes.{covers as covers_cell};
 ghost use Rattle.header.specs.RouteLaws.{route_laws};
 
 use crate::kind::HeaderKind;
@@ -69,7 +69,7 @@ fn longer_prefix(a: Prefix, b: Prefix) -> Prefix
 
 /// Whether every address that begins with the second begins with the first.
 fn prefix_covers(a: Prefix, b: Prefix) -> bool
-    ensures { result ≡ covers-cell Field.NwSrc a b }
+    ensures { result ≡ covers_cell Field.NwSrc a b }
 {
     (a.length <= b.length) & prefix_takes(a, u64::from(b.value))
 }

@@ -122,10 +122,10 @@ parts_right (n ∷ ns) sound =
     let last = last_left n ns 0 [] in
     let root = root_left all (0 + length ns) last.0 (ap (kinds_at all) (sym last.1) ∙ k.left ∙ o.1) in
     let left : left_after all 0 [] ≡ (0 + length ns) ∷ [] = last.1 ∙ root.0 in
-    let at-root : length all - 1 ≡ 0 + length ns = omega arith in
+    let at_root : length all - 1 ≡ 0 + length ns = omega arith in
     record {
       below = λ i j h m. omega (arith, below_from all 0 [] (λ k q. absurd (omega arith)) i j h m);
       once = λ j h. omega (arith, owned all 0 [] j, ap (times j) left, times_counting j 0 (length all) (omega arith) (omega arith), one (ne_eqb (0 + length ns) j (λ e. omega arith)));
       kinds = k.parts;
-      root = (omega (arith, owned all 0 [] (length all - 1), ap (times (length all - 1)) left, times_counting (length all - 1) 0 (length all) (omega arith) (omega arith), one (eq-eqb (0 + length ns) (length all - 1) (omega arith))), ap (λ m. kind_of (get_or all m n_any)) at-root ∙ root.1);
+      root = (omega (arith, owned all 0 [] (length all - 1), ap (times (length all - 1)) left, times_counting (length all - 1) 0 (length all) (omega arith) (omega arith), one (eq-eqb (0 + length ns) (length all - 1) (omega arith))), ap (λ m. kind_of (get_or all m n_any)) at_root ∙ root.1);
     }

@@ -160,8 +160,8 @@ turn {s} {k} {T} {S} {D} {n} {m} ns i sound within few st read is =
     let ss = map shape ns in
     let ts = after ss i in
     let inside : i < length ss = rw length-map within in
-    let node-is : get_or ss i n_any ≡ shape m = get_or-map shape ns i n n_any within ∙ ap shape (sym read ∙ is) in
-    let here : Adds (shape m) ts (after ss (i + 1)) = subst (λ v. Adds v ts (after ss (i + 1))) node-is (step_at ss i n_any sound inside) in
+    let node_is : get_or ss i n_any ≡ shape m = get_or-map shape ns i n n_any within ∙ ap shape (sym read ∙ is) in
+    let here : Adds (shape m) ts (after ss (i + 1)) = subst (λ v. Adds v ts (after ss (i + 1))) node_is (step_at ss i n_any sound inside) in
     let h = has s k here in
     let w = weight_at s k ss sound i (omega arith) in
     record {

@@ -26,7 +26,7 @@ signs (t_line ∷ ts) = s_line ∷ signs ts
 signs (t_other ∷ ts) = s_other ∷ signs ts
 signs (t_word w ∷ ts) = s_word w ∷ signs ts
 
--- Pred-in p ts us: the inside of a bracket that writes p stands at the front of ts, and us is what follows, from its closing bracket on
+-- PredIn p ts us: the inside of a bracket that writes p stands at the front of ts, and us is what follows, from its closing bracket on
 pub data PredIn : Pred → List Sign → List Sign → Type 0 where
   in_any : {w : List ℕ} {us : List Sign} → w ≡ codes "any" → PredIn any (s_word w ∷ us) us
   in_at : {w v : List ℕ} {n : ℕ} {us : List Sign} → w ≡ codes "at" → sixteen_bits v ≡ Some n → PredIn (at n) (s_word w ∷ s_word v ∷ us) us

@@ -17,8 +17,8 @@ use Rattle.policy.proofs.policy.Policy.empty.Goals as goal
 -- the two nodes that are pushed
 made : (old one two : List Node) (none : Ports) (r s : Bool) → old ≡ [] → Pushed old Any 64 r one → Pushed one (Send none) 64 s two → written none ≡ [] → map shape two ≡ n_any ∷ n_send [] ∷ []
 made old one two none r s empty first second nothing =
-    let one-is : one ≡ Any ∷ [] = push_goes old one Any 64 r first (omega (arith, ap length empty)) ∙ ap (λ l. l ++ Any ∷ []) empty in
-    let two_is : two ≡ Any ∷ Send none ∷ [] = push_goes one two (Send none) 64 s second (omega (arith, ap length one-is)) ∙ ap (λ l. l ++ Send none ∷ []) one-is in
+    let one_is : one ≡ Any ∷ [] = push_goes old one Any 64 r first (omega (arith, ap length empty)) ∙ ap (λ l. l ++ Any ∷ []) empty in
+    let two_is : two ≡ Any ∷ Send none ∷ [] = push_goes one two (Send none) 64 s second (omega (arith, ap length one_is)) ∙ ap (λ l. l ++ Send none ∷ []) one_is in
     ap (map shape) two_is ∙ ap (λ ps. n_any ∷ n_send ps ∷ []) nothing
 
 pub of-requires : goal.of-requires
