@@ -4,6 +4,10 @@ use std::alloc::AllocError;
 
 mod list;
 
+/// A list has no room for one item more.
+#[derive(Clone, Copy, PartialEq, Eq, Debug)]
+pub struct Full;
+
 /// A list of at most `N` items, kept in an array: nothing is allocated.
 pub struct Bounded<T, const N: usize> {
     items: [T; N],
