@@ -19,8 +19,7 @@ fn with_port(list: &Bounded<u8, 8>, port: u8) -> Bounded<u8, 8>
 {
     let mut grown = Bounded::new(0);
     let mut high = port;
-    let old = list.as_slice();
-    for here in old {
+    for here in list.as_slice() {
         grown.push((*here).min(high)).unwrap();
         high = (*here).max(high);
     }

@@ -1,14 +1,12 @@
 -- What is left are the first items.
-use Rattle.std.proofs.Common.{sym, arith, length-take}
-use Rattle.std.proofs.lemmas.List.{take-take, take_all}
+use Rattle.std.proofs.Common.{◌≡◌, min, take, length, sym, ap, ◌∙◌, arith, length-take}
+use Rattle.std.proofs.lemmas.List.{take-take, take_min}
+use Rattle.packet.specs.Items.{items_of}
 use Rattle.packet.proofs.bounded.Bounded.truncate.Goals as goal
 
-pub returns-then-len-self : goal.returns-then-len-self
-returns-then-len-self g c =
+pub returns : goal.returns
+returns g c =
     let b = c.args.self.now in
-    sym (take-take c.args.len b.len b.items (omega arith))
-
-pub returns-else-len-self : goal.returns-else-len-self
-returns-else-len-self g c =
-    let b = c.args.self.now in
-    sym (take_all _ _ (omega (arith, length-take b.len b.items)))
+    let n = c.min-self.result in
+    let all : n ≡ min c.args.len (length (items_of b)) = omega (arith, length-take b.len b.items) in
+    sym (take-take n b.len b.items (omega arith)) ∙ ap (λ k. take k (items_of b)) all ∙ take_min c.args.len (items_of b)
