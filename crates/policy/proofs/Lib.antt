@@ -1,7 +1,7 @@
 pub mod Adding
-pub mod Checking
 pub mod Counting
-pub mod Fitting
+pub mod Leading
 pub mod Numbering
 pub mod Rooting
 pub mod Standing
+pub mod Taking

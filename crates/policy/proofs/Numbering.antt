@@ -1,32 +1,28 @@
 -- The numbers of the parts follow from the stack discipline.
-use Rattle.std.proofs.Common.{◌≡◌, ℕ, zero, suc, ◌+◌, ◌-◌, ◌<◌, ◌≤◌, Bool, true, false, cond, eqb, List, [], ◌∷◌, ◌++◌, map, reverse, length, get_or, take, drop, is_some, Some, None, Option, sym, refl, ap, ◌∙◌, subst, ⊎_elim, append_assoc, arith}
-use mathlib.Core.Bool.{false≢true}
+use Rattle.std.proofs.Common.{◌≡◌, ℕ, zero, suc, ◌+◌, ◌-◌, ◌<◌, ◌≤◌, true, List, [], ◌∷◌, ◌++◌, map, reverse, length, get_or, take, drop, is_some, Some, None, Option, sym, refl, ap, ◌∙◌, subst, append_assoc, arith}
 use Rattle.std.specs.List.{range_with_len}
 use Rattle.std.proofs.lemmas.List.{take-append-drop, take-map, drop-map, get_or_at, length_push}
-use Rattle.std.proofs.lemmas.Bool.{eqb-true, ne_eqb, eq-eqb, cases_lt}
-use Rattle.policy.specs.declared.node.Kind.{Kind}
-use Rattle.policy.specs.declared.node.Kind.TheVariants.{Predicate, Policy}
+use Rattle.std.proofs.lemmas.Bool.Decides.{nat_tests}
+use Rattle.policy.specs.declared.node.Kind.TheVariants.{Policy}
 use Rattle.policy.specs.Shapes.{Shape}
 use Rattle.policy.specs.Shapes.Shape.{n_any}
 use Rattle.policy.specs.Kinds.{kind_of, wanted}
 use Rattle.packet.specs.PortLists.{times}
 use Rattle.policy.specs.Parts.{arity, left_after, parts_from, owners, kinds_at, PartsRight}
-use Rattle.policy.specs.Trees.{Tree, Untaken, add, on, stack_of, trees, only_policy}
-use Rattle.policy.specs.Trees.Tree.{pred, pol}
-use Rattle.policy.proofs.Adding.{Adds, adds, some_before}
-use Rattle.policy.proofs.Adding.Adds.{adds_any, adds_at, adds_test, adds_and, adds_or, adds_not, adds_send, adds_both, adds_keep}
-use Rattle.policy.proofs.Counting.{times_append}
+use Rattle.policy.specs.Trees.{Untaken, add, on, stack_of, trees, only_policy}
+use Rattle.policy.proofs.Adding.{on_none}
+use Rattle.policy.proofs.Taking.{newest_kinds, some_is, took}
+use Rattle.policy.proofs.Counting.{only_some, root_stays, times_append}
 
 times_cut : (j a : ℕ) (free : List ℕ) → times j (take a free) + times j (drop a free) ≡ times j free
 times_cut j a free = sym (times_append j (take a free) (drop a free)) ∙ ap (times j) (take-append-drop a free)
 
 -- parts are numbered below their node
 next_below : (i a j : ℕ) (free : List ℕ) → ((k : ℕ) → 0 < times k free → k < i) → 0 < times j (i ∷ drop a free) → j < i + 1
-next_below i a j free low h = go (eqb i j) refl
-  where
-    go : (b : Bool) → eqb i j ≡ b → j < i + 1
-    go true e = omega (arith, eqb-true i j e)
-    go false e = omega (arith, low j (omega (arith, times_cut j a free, ap (λ b. cond {A = ℕ} b 1 0) e)))
+next_below i a j free low h =
+    let parted = times_cut j a free in
+    let known = low j in
+    grind (arith, nat_tests)
 
 below_from : (ns : List Shape) (first : ℕ) (free : List ℕ) → ((k : ℕ) → 0 < times k free → k < first) → (i j : ℕ) → i < length ns → 0 < times j (get_or (parts_from ns first free) i []) → j < first + i
 below_from [] first free low i j within h = absurd (omega arith)
@@ -39,20 +35,16 @@ owned : (ns : List Shape) (first : ℕ) (free : List ℕ) (j : ℕ) → owners j
 owned [] first free j = omega arith
 owned (n ∷ ns) first free j = omega (arith, owned ns (first + 1) (first ∷ drop (arity n) free) j, times_cut j (arity n) free)
 
-one : {b c : Bool} → b ≡ c → cond {A = ℕ} b 1 0 ≡ cond c 1 0
-one e = ap (λ b. cond {A = ℕ} b 1 0) e
-
 times_past : (j a n : ℕ) → j < a → times j (range_with_len a n) ≡ 0
 times_past j a zero h = refl
-times_past j a (suc n) h = omega (arith, times_past j (a + 1) n (omega arith), one (ne_eqb a j (λ e. omega arith)))
+times_past j a (suc n) h = let past = times_past j (a + 1) n (omega arith) in grind (arith, nat_tests)
 
 times_counting : (j a n : ℕ) → a ≤ j → j < a + n → times j (range_with_len a n) ≡ 1
 times_counting j a zero h l = absurd (omega arith)
 times_counting j a (suc n) h l =
-    ⊎_elim
-    (λ (lt : a < j). omega (arith, times_counting j (a + 1) n (omega arith) (omega arith), one (ne_eqb a j (λ e. omega arith))))
-    (λ (ge : j ≤ a). omega (arith, times_past j (a + 1) n (omega arith), one (eq-eqb a j (omega arith))))
-    (cases_lt a j)
+    let here = times_past j (a + 1) n in
+    let later = times_counting j (a + 1) n in
+    grind (arith, nat_tests)
 
 -- the last is untaken
 last_left : (n : Shape) (ns : List Shape) (first : ℕ) (free : List ℕ) → (rest : List ℕ) × (left_after (n ∷ ns) first free ≡ (first + length ns) ∷ rest)
@@ -61,71 +53,50 @@ last_left n (m ∷ ns) first free =
     let r = last_left m ns (first + 1) (first ∷ drop (arity n) free) in
     (r.0, r.1 ∙ ap (λ k. k ∷ r.0) (omega arith))
 
-abbrev pub tree_kind : Tree → Kind
-tree_kind (pred p) = Predicate
-tree_kind (pol q) = Policy
-
--- what a node takes and leaves, by kinds, the newest first
-took : {n : Shape} {ts us : Untaken} → Adds n ts us → (take (arity n) (map tree_kind ts) ≡ reverse (wanted n)) × (map tree_kind us ≡ kind_of n ∷ drop (arity n) (map tree_kind ts))
-took adds_any = (refl, refl)
-took adds_at = (refl, refl)
-took adds_test = (refl, refl)
-took adds_and = (refl, refl)
-took adds_or = (refl, refl)
-took adds_not = (refl, refl)
-took adds_send = (refl, refl)
-took adds_both = (refl, refl)
-took adds_keep = (refl, refl)
-
 -- the numbers of the untaken nodes and the untaken trees are of the same kinds
 pub record KindsRight (all ns : List Shape) (first : ℕ) (free : List ℕ) (ts : Untaken) : Type 0 where
   pub parts : map (kinds_at all) (parts_from ns first free) ≡ map (λ n. reverse (wanted n)) ns
-  pub left : kinds_at all (left_after ns first free) ≡ map tree_kind (trees (on ns (Some ts)))
+  pub left : kinds_at all (left_after ns first free) ≡ newest_kinds (trees (on ns (Some ts)))
 
-pub some_is : (r : Option Untaken) → is_some r ≡ true → r ≡ Some (trees r)
-some_is None e = absurd (false≢true e)
-some_is (Some ts) e = refl
+-- what comes to something later is something now
+some_before : (ns : List Shape) (r : Option Untaken) → is_some (on ns r) ≡ true → is_some r ≡ true
+some_before ns (Some ts) e = refl
+some_before ns None e = let nothing = on_none ns in cc
 
-kinds_from : (all done ns : List Shape) (first : ℕ) (free : List ℕ) (ts : Untaken) → all ≡ done ++ ns → length done ≡ first → kinds_at all free ≡ map tree_kind ts → is_some (on ns (Some ts)) ≡ true → KindsRight all ns first free ts
+kinds_from : (all done ns : List Shape) (first : ℕ) (free : List ℕ) (ts : Untaken) → all ≡ done ++ ns → length done ≡ first → kinds_at all free ≡ newest_kinds ts → is_some (on ns (Some ts)) ≡ true → KindsRight all ns first free ts
 kinds_from all done [] first free ts e l same sound = record { parts = refl; left = same }
 kinds_from all done (n ∷ ns) first free ts e l same sound =
     let kind = λ (j : ℕ). kind_of (get_or all j n_any) in
-    let some = some_before ns (add n ts) sound in
     let us = trees (add n ts) in
-    let t = took (adds n ts some) in
+    let some = some_is (add n ts) (some_before ns (add n ts) sound) in
+    let t = took n ts us some in
     let here : get_or all first n_any ≡ n = ap (λ m. get_or m first n_any) e ∙ get_or_at done n ns n_any first l in
-    let next : kinds_at all (first ∷ drop (arity n) free) ≡ map tree_kind us =
+    let next : kinds_at all (first ∷ drop (arity n) free) ≡ newest_kinds us =
     (λ j. kind_of (here j) ∷ (sym (drop-map kind (arity n) free) ∙ ap (drop (arity n)) same) j) ∙ sym t.1 in
-    let rest = kinds_from all (done ++ n ∷ []) ns (first + 1) (first ∷ drop (arity n) free) us (e ∙ sym (append_assoc done (n ∷ []) ns)) (length_push done n ∙ ap (λ m. m + 1) l) next (subst (λ o. is_some (on ns o) ≡ true) (some_is (add n ts) some) sound) in
+    let rest = kinds_from all (done ++ n ∷ []) ns (first + 1) (first ∷ drop (arity n) free) us (e ∙ sym (append_assoc done (n ∷ []) ns)) (length_push done n ∙ ap (λ m. m + 1) l) next (subst (λ o. is_some (on ns o) ≡ true) some sound) in
     record {
       parts = λ j. (sym (take-map kind (arity n) free) ∙ ap (take (arity n)) same ∙ t.0) j ∷ rest.parts j;
-      left = rest.left ∙ ap (λ o. map tree_kind (trees (on ns o))) (sym (some_is (add n ts) some));
+      left = rest.left ∙ ap (λ o. newest_kinds (trees (on ns o))) (sym some);
     }
-
-pub only_some : (o : Option Untaken) → only_policy o ≡ true → (is_some o ≡ true) × (map tree_kind (trees o) ≡ Policy ∷ [])
-only_some None e = absurd (false≢true e)
-only_some (Some []) e = absurd (false≢true e)
-only_some (Some (pred p ∷ ts)) e = absurd (false≢true e)
-only_some (Some (pol q ∷ [])) e = (refl, refl)
-only_some (Some (pol q ∷ t ∷ ts)) e = absurd (false≢true e)
 
 root_left : (all : List Shape) (m : ℕ) (rest : List ℕ) → kinds_at all (m ∷ rest) ≡ Policy ∷ [] → (m ∷ rest ≡ m ∷ []) × (kind_of (get_or all m n_any) ≡ Policy)
 root_left all m [] e = (refl, cc)
 root_left all m (r ∷ rest) e = absurd (omega (arith, ap length e))
 
 pub parts_right : (ns : List Shape) → only_policy (stack_of ns) ≡ true → PartsRight ns
-parts_right [] sound = absurd (false≢true sound)
+parts_right [] sound = cc
 parts_right (n ∷ ns) sound =
     let all = n ∷ ns in
-    let o = only_some (stack_of all) sound in
-    let k = kinds_from all [] all 0 [] [] refl refl refl o.0 in
+    let k = kinds_from all [] all 0 [] [] refl refl refl (only_some (stack_of all) sound) in
     let last = last_left n ns 0 [] in
-    let root = root_left all (0 + length ns) last.0 (ap (kinds_at all) (sym last.1) ∙ k.left ∙ o.1) in
+    let root = root_left all (0 + length ns) last.0 (ap (kinds_at all) (sym last.1) ∙ k.left ∙ ap newest_kinds (root_stays (stack_of all) sound)) in
     let left : left_after all 0 [] ≡ (0 + length ns) ∷ [] = last.1 ∙ root.0 in
     let at_root : length all - 1 ≡ 0 + length ns = omega arith in
+    let count : (j : ℕ) → j < length all → owners j (parts_from all 0 []) + times j ((0 + length ns) ∷ []) ≡ 1 =
+    λ j h. omega (arith, owned all 0 [] j, ap (times j) left, times_counting j 0 (length all) (omega arith) (omega arith)) in
     record {
       below = λ i j h m. omega (arith, below_from all 0 [] (λ k q. absurd (omega arith)) i j h m);
-      once = λ j h. omega (arith, owned all 0 [] j, ap (times j) left, times_counting j 0 (length all) (omega arith) (omega arith), one (ne_eqb (0 + length ns) j (λ e. omega arith)));
+      once = λ j h. let counted = count j (omega arith) in grind (arith, nat_tests);
       kinds = k.parts;
-      root = (omega (arith, owned all 0 [] (length all - 1), ap (times (length all - 1)) left, times_counting (length all - 1) 0 (length all) (omega arith) (omega arith), one (eq-eqb (0 + length ns) (length all - 1) (omega arith))), ap (λ m. kind_of (get_or all m n_any)) at_root ∙ root.1);
+      root = (let counted = count (length all - 1) (omega arith) in grind (arith, nat_tests), ap (λ m. kind_of (get_or all m n_any)) at_root ∙ root.1);
     }

@@ -1,5 +1,5 @@
 -- The kinds of the trees that no node has taken, and what a node does to them.
-use Rattle.std.specs.Prelude.{◌≡◌, Bool, true, false, List, [], ◌∷◌, ◌++◌, is_some}
+use Rattle.std.specs.Prelude.{◌≡◌, true, false, Some, None, Option, List, [], ◌∷◌, ◌++◌, is_some}
 use Rattle.policy.specs.Shapes.{Shape}
 use Rattle.policy.specs.Trees.{Untaken, add, trees}
 use Rattle.policy.specs.Trees.Tree.{pred, pol}
@@ -13,6 +13,6 @@ kinds_of (pred p ∷ ts) = kinds_of ts ++ Predicate ∷ []
 kinds_of (pol q ∷ ts) = kinds_of ts ++ Policy ∷ []
 
 -- a node finds its parts and stands in their place, or does not
-abbrev pub Takes : Shape → Untaken → Bool → List Kind → Type 0
-Takes n ts true ks = (is_some (add n ts) ≡ true) × (ks ≡ kinds_of (trees (add n ts)))
-Takes n ts false ks = is_some (add n ts) ≡ false
+abbrev pub Takes : Shape → Untaken → Option Unit → List Kind → Type 0
+Takes n ts (Some u) ks = (is_some (add n ts) ≡ true) × (ks ≡ kinds_of (trees (add n ts)))
+Takes n ts None ks = is_some (add n ts) ≡ false

@@ -1,5 +1,5 @@
 -- The trees that the nodes of a policy stand for.
-use Rattle.std.specs.Prelude.{ℕ, Bool, true, false, List, [], ◌∷◌, take, Some, None, Option}
+use Rattle.std.specs.Prelude.{ℕ, Bool, true, false, List, [], ◌∷◌, Some, None, Option}
 use Rattle.packet.specs.declared.test.Test.{Test}
 use Rattle.policy.specs.Shapes.{Shape}
 use Rattle.policy.specs.Shapes.Shape.{n_any, n_at, n_is, n_and, n_or, n_not, n_send, n_both, n_keep}
@@ -69,7 +69,3 @@ only_policy (Some (pol q ∷ t ∷ ts)) = false
 abbrev pub trees : Option Untaken → Untaken
 trees None = []
 trees (Some ts) = ts
-
--- the trees untaken after the first i nodes
-abbrev pub after : List Shape → ℕ → Untaken
-after ns i = trees (stack_of (take i ns))

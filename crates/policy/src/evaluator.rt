@@ -1,50 +1,46 @@
-ghost use Rattle.std.specs.Prelude.{◌≡◌, ℕ, ◌+◌, ◌<◌, ◌≤◌, true, [], ◌∷◌, ◌++◌, map, length, is_some, slice_index};
+ghost use Rattle.std.specs.Prelude.{◌≡◌, ℕ, ◌+◌, ◌<◌, ◌≤◌, [], ◌∷◌, ◌++◌, map, length, slice_index};
 ghost use Rattle.packet.specs.Items.{items_of};
 ghost use Rattle.packet.specs.PortLists.{times};
 ghost use Rattle.packet.specs.Written.{written};
+ghost use Rattle.packet.specs.declared.packet.Packet.{Packet};
 ghost use Rattle.policy.specs.Meaning.{Counts};
 ghost use Rattle.policy.specs.Roots.{tree_of};
 ghost use Rattle.policy.specs.Shapes.{shape};
-ghost use Rattle.policy.specs.Trees.{stack_of, after};
-ghost use Rattle.policy.specs.Walks.{Stands, tally};
+ghost use Rattle.policy.specs.Trees.{Untaken, add};
+ghost use Rattle.policy.specs.Walks.{HasParts, StandsFor, held, tally};
 
 use crate::node::Node;
 use crate::policy::Policy;
 use packet::{Bounded, Packet, Ports};
 
-/// Puts an item onto a list that has room.
-fn put<T: Copy, const N: usize>(list: &mut Bounded<T, N>, item: T)
-    requires { length (items_of list.old) < N }
-    ensures { items_of list.new ≡ items_of list.old ++ item ∷ [] }
+/// Takes the two newest truths of a list that has them, the older first.
+fn take_two(truths: &mut Bounded<bool, 64>) -> (bool, bool)
+    requires { 1 < length (items_of truths.old) }
+    ensures { items_of truths.old ≡ items_of truths.new ++ result.0 ∷ [] ++ result.1 ∷ [] }
 {
-    list.push(item);
+    let newest = truths.pop().unwrap();
+    (truths.pop().unwrap(), newest)
 }
 
-/// Takes the newest item off a list that has one.
-fn take_last<T: Copy, const N: usize>(list: &mut Bounded<T, N>) -> T
-    requires { 0 < length (items_of list.old) }
-    ensures { items_of list.old ≡ items_of list.new ++ result ∷ [] }
-{
-    match list.pop() {
-        Some(item) => item,
-        None => unreachable(),
-    }
-}
-
-/// A walk over the nodes: the truths of the untaken predicates, the ports of those sends of the untaken policies
-/// that count, and where those of each policy begin.
+/// A walk over the nodes of a policy, for a packet at a switch number: the truths of the untaken predicates, the ports
+/// of those sends of the untaken policies that count, and where those of each policy begin.
 #[derive(Drop)]
-struct Walk {
+struct Walk<'a> {
+    switch: u16,
+    packet: &'a Packet,
     truths: Bounded<bool, 64>,
+    // One list of sends, with where those of each policy begin: a list for each policy would have to be allocated.
     starts: Bounded<usize, 64>,
     sends: Bounded<Ports, 64>,
 }
 
-impl Walk {
-    fn new() -> Walk
-        ensures { (items_of result.truths ≡ []) × ((items_of result.starts ≡ []) × (items_of result.sends ≡ [])) }
+impl<'a> Walk<'a> {
+    fn new(switch: u16, packet: &'a Packet) -> Walk<'a>
+        ensures { StandsFor [] switch packet.now result }
     {
         Walk {
+            switch,
+            packet,
             truths: Bounded::new(false),
             starts: Bounded::new(0),
             sends: Bounded::new(Ports::none()),
@@ -52,47 +48,40 @@ impl Walk {
     }
 
     /// One node more.
-    fn step(&mut self, nodes: &[Node], i: usize, switch: u16, packet: &Packet)
-        requires sound { is_some (stack_of (map shape nodes.now)) ≡ true }
-        requires within { i < length nodes.now }
-        requires few { length nodes.now ≤ 64 }
-        requires stands { Stands (after (map shape nodes.now) i) switch packet.now (items_of self.old.truths) (items_of self.old.starts) (map written (items_of self.old.sends)) }
-        ensures { Stands (after (map shape nodes.now) (i + 1)) switch packet.now (items_of self.new.truths) (items_of self.new.starts) (map written (items_of self.new.sends)) }
+    fn step(&mut self, node: &Node)
+        requires parts { HasParts (shape node.now) self.old }
+        requires room { held self.old < 64 }
+        ensures few { held self.new ≤ held self.old + 1 }
+        ensures stands { (ts us : Untaken) (s : ℕ) (k : Packet) → StandsFor ts s k self.old → add (shape node.now) ts ≡ Some us → StandsFor us s k self.new }
     {
-        let node = nodes[i];
         match node {
-            Node::Any => put(&mut self.truths, true),
-            Node::At(number) => put(&mut self.truths, number == switch),
-            Node::Is(test) => put(&mut self.truths, test.holds(packet)),
+            Node::Any => self.truths.push(true).unwrap(),
+            Node::At(number) => self.truths.push(*number == self.switch).unwrap(),
+            Node::Is(test) => self.truths.push(test.holds(self.packet)).unwrap(),
             Node::Not => {
-                let a = take_last(&mut self.truths);
-                put(&mut self.truths, !a);
+                let a = self.truths.pop().unwrap();
+                self.truths.push(!a).unwrap();
             }
             Node::And => {
-                let b = take_last(&mut self.truths);
-                let a = take_last(&mut self.truths);
-                put(&mut self.truths, a & b);
+                let (a, b) = take_two(&mut self.truths);
+                self.truths.push(a & b).unwrap();
             }
             Node::Or => {
-                let b = take_last(&mut self.truths);
-                let a = take_last(&mut self.truths);
-                put(&mut self.truths, a | b);
+                let (a, b) = take_two(&mut self.truths);
+                self.truths.push(a | b).unwrap();
             }
             Node::Send(ports) => {
-                let counts = take_last(&mut self.truths);
-                put(&mut self.starts, self.sends.len());
-                if counts {
-                    put(&mut self.sends, ports);
+                self.starts.push(self.sends.len()).unwrap();
+                if self.truths.pop().unwrap() {
+                    self.sends.push(*ports).unwrap();
                 }
             }
             Node::Both => {
-                take_last(&mut self.starts);
+                self.starts.pop().unwrap();
             }
             Node::Keep => {
-                let start = take_last(&mut self.starts);
-                put(&mut self.starts, start);
-                let counts = take_last(&mut self.truths);
-                if !counts {
+                if !self.truths.pop().unwrap() {
+                    let start = *self.starts.as_slice().last().unwrap();
                     self.sends.truncate(start);
                 }
             }
@@ -101,13 +90,13 @@ impl Walk {
 }
 
 /// Raises the count of each port of one send.
+#[tactic(auto, using(crate::proofs::Counting::port_within, crate::proofs::Counting::port_times))]
 fn count_ports(counts: &mut [u16; 48], ports: &Ports)
     requires { (n : ℕ) → n < 48 → slice_index counts.old n ≤ 504 }
     ensures { (n : ℕ) → n < 48 → slice_index counts.new n ≡ slice_index counts.old n + times (n + 1) (written ports.now) }
 {
-    let list = ports.as_slice();
-    for port in list {
-        counts[*port as usize - 1] += 1;
+    for port in ports.as_slice() {
+        counts[usize::from(*port) - 1] += 1;
     }
 }
 
@@ -127,10 +116,9 @@ fn count_sends(sends: &[Ports]) -> [u16; 48]
 pub fn evaluate(policy: &Policy, switch: u16, packet: &Packet) -> [u16; 48]
     ensures { Counts (tree_of policy.now) switch packet.now result }
 {
-    let nodes = policy.nodes();
-    let mut walk = Walk::new();
-    for i in 0..nodes.len() {
-        walk.step(nodes, i, switch, packet);
+    let mut walk = Walk::new(switch, packet);
+    for node in policy.nodes() {
+        walk.step(node);
     }
     count_sends(walk.sends.as_slice())
 }

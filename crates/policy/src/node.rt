@@ -5,7 +5,7 @@ ghost use Rattle.policy.specs.Shapes.{shape};
 use packet::{Ports, Test};
 
 /// What a node is: a predicate, true or false of a packet, or a policy, which sends it.
-#[derive(Clone, Copy, PartialEq)]
+#[derive(Clone, Copy, PartialEq, Eq, Debug)]
 pub enum Kind {
     Predicate,
     Policy,

@@ -16,6 +16,7 @@ mod calls;
 /// right, and the last belongs to none and is a policy. A policy is not `Copy`: a load uses it up.
 #[derive(Drop)]
 pub struct Policy {
+    // Parts come before their node in one bounded list, and not in boxes, since the library allocates nothing.
     nodes: Bounded<Node, 64>,
     ghost sound: { only_policy (stack_of (map shape (items_of nodes))) ≡ true },
     ghost below: { Below (map shape (items_of nodes)) },

@@ -10,21 +10,16 @@ use super::Policy;
 use crate::node::{Kind, Node};
 use packet::{Bounded, Ports};
 
-/// A node takes the newest kinds, those of its parts, and puts its own in their place; false where they are not there.
-fn take_parts(kinds: &mut Bounded<Kind, 64>, node: &Node) -> bool
+/// A node takes the newest kinds, those of its parts, and puts its own in their place; none where they are not there.
+fn take_parts(kinds: &mut Bounded<Kind, 64>, node: &Node) -> Option<()>
     requires { length (items_of kinds.old) < 64 }
     ensures few { length (items_of kinds.new) ≤ length (items_of kinds.old) + 1 }
     ensures taken { (ts : Untaken) → items_of kinds.old ≡ kinds_of ts → Takes (shape node.now) ts result (items_of kinds.new) }
 {
-    let parts = node.parts();
-    let free = kinds.as_slice();
-    if !free.ends_with(parts) {
-        return false;
-    }
-    let rest = kinds.len() - parts.len();
+    let rest = kinds.as_slice().strip_suffix(node.parts())?.len();
     kinds.truncate(rest);
-    kinds.push(node.kind());
-    true
+    kinds.push(node.kind()).unwrap();
+    Some(())
 }
 
 impl Policy {
@@ -40,18 +35,12 @@ impl Policy {
         ensures { Finished (map shape (items_of nodes)) result }
     {
         let mut kinds = Bounded::new(Kind::Predicate);
-        let list = nodes.as_slice();
-        for node in list {
-            if !take_parts(&mut kinds, node) {
-                return None;
-            }
+        for node in nodes.as_slice() {
+            take_parts(&mut kinds, node)?;
         }
-        let left = kinds.as_slice();
-        let root = &[Kind::Policy][..];
-        if left == root {
-            Some(Policy::of(nodes))
-        } else {
-            None
+        match kinds.as_slice() {
+            [Kind::Policy] => Some(Policy::of(nodes)),
+            _ => None,
         }
     }
 
@@ -60,8 +49,8 @@ impl Policy {
         ensures { tree_of result ≡ empty_tree }
     {
         let mut nodes = Bounded::new(Node::Any);
-        nodes.push(Node::Any);
-        nodes.push(Node::Send(Ports::none()));
+        nodes.push(Node::Any).unwrap();
+        nodes.push(Node::Send(Ports::none())).unwrap();
         Policy::of(nodes)
     }
 

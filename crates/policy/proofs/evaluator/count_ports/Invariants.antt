@@ -4,4 +4,7 @@ use Rattle.packet.specs.PortLists.{times}
 use Rattle.policy.proofs.evaluator.count_ports.Given as goal
 
 abbrev pub invariant-loop-port : goal.invariant-loop-port
-invariant-loop-port l = (length l.counts ≡ 48) × ((n : ℕ) → n < 48 → get_or l.counts n 0 ≡ get_or l.initial.counts n 0 + times (n + 1) (take l.port-index l.list))
+invariant-loop-port l = record {
+  whole : length l.counts ≡ 48;
+  counted : (n : ℕ) → n < 48 → get_or l.counts n 0 ≡ get_or l.initial.counts n 0 + times (n + 1) (take l.port-index l.port-items);
+}

@@ -1,36 +1,49 @@
 -- At the end the walk holds the sends of the root that count, and their tally is the policy's copies.
-use Rattle.std.proofs.Common.{◌+◌, ◌≤◌, map, length, is_some, ap, ◌∙◌, arith, rules}
+use Rattle.std.proofs.Common.{◌+◌, [], length, ap, ◌∙◌, arith, rules}
+use Rattle.std.proofs.lemmas.List.{length-map}
 use Rattle.packet.proofs.Pushes.{items_fit}
 use Rattle.packet.specs.Items.{items_of}
-use Rattle.packet.specs.Written.{written}
-use Rattle.std.proofs.lemmas.List.{length-map}
-use Rattle.policy.specs.Roots.{shapes_of, tree_of}
+use Rattle.policy.specs.Roots.{tree_of}
 use Rattle.policy.specs.Shapes.{shape}
-use Rattle.policy.specs.Trees.{after, stack_of}
-use Rattle.policy.specs.Walks.{tally, sends_of}
-use Rattle.policy.proofs.Counting.{tally_gives, at_end, only_some}
+use Rattle.policy.specs.Trees.{stack_of}
+use Rattle.policy.specs.Walks.{sends_of}
+use Rattle.policy.proofs.Counting.{one_root, tally_gives}
+use Rattle.policy.proofs.Leading.{first, goes_on, all}
+use Rattle.policy.proofs.Standing.{has}
 use Rattle.policy.proofs.evaluator.evaluate.Goals as goal
 
-pub step-requires : goal.step-requires
-step-requires c =
+pub loop-node-init : goal.loop-node-init
+loop-node-init c = record { trees = []; stands = c.new-walk.ensures; leads = first c.nodes-node-items.result.now; few = grind arith }
+
+pub step-requires-clause-parts : goal.step-requires-clause-parts
+step-requires-clause-parts c =
+    let l = c.loop-node.invariant in
+    let more = goes_on c.loop-node-test.true c.node-item.is l.leads c.args.policy.now c.nodes-node-items.ensures in
+    has (shape c.node-item.result) l.stands more.1
+
+pub step-requires-clause-room : goal.step-requires-clause-room
+step-requires-clause-room c =
     let policy = c.args.policy.now in
-    let same = c.nodes-nodes.ensures in
+    omega (arith, items_fit policy.nodes, ap length c.nodes-node-items.ensures, length-map c.nodes-node-items.result.now shape, length-map (items_of policy.nodes) shape)
+
+pub loop-node-preserved : goal.loop-node-preserved
+loop-node-preserved c =
+    let l = c.loop-node.invariant in
+    let more = goes_on c.loop-node-test.true c.node-item.is l.leads c.args.policy.now c.nodes-node-items.ensures in
     record {
-      sound = ap (λ ns. is_some (stack_of ns)) same ∙ only_some (stack_of (shapes_of policy)) policy.sound;
-      within = c.loop-i-test.true;
-      few = omega (arith, length-map c.nodes-nodes.result.now shape, ap length same, length-map (items_of policy.nodes) shape, items_fit policy.nodes);
-      stands = c.loop-i.invariant;
+      trees = more.0;
+      stands = c.step.ensures.stands l.trees more.0 c.args.switch c.args.packet.now l.stands more.1;
+      leads = more.2;
+      few = omega arith;
     }
 
 pub returns : goal.returns
 returns c = (
   search rules,
   λ n h.
-      let policy = c.args.policy.now in
-      let s = c.args.switch in
-      let k = c.args.packet.now in
-      let same = c.nodes-nodes.ensures in
-      let past : length (shapes_of policy) ≤ c.loop-i.i = omega (arith, ap length same, length-map c.nodes-nodes.result.now shape) in
-      let end = ap (λ l. after l c.loop-i.i) same ∙ at_end policy c.loop-i.i past in
-      c.count_sends.ensures n h ∙ ap (λ l. tally (n + 1) (map written l)) c.as_slice.ensures ∙ ap (tally (n + 1)) (c.loop-i.invariant.sends_are ∙ ap (λ ts. sends_of ts s k) end) ∙ tally_gives (tree_of policy) s k (n + 1),
+      let w = c.loop-node.invariant in
+      let end = one_root c.args.policy.now (all w.leads (omega arith) ∙ ap stack_of c.nodes-node-items.ensures) in
+      let sends = w.stands.stands.sends_are ∙ ap (λ ts. sends_of ts c.args.switch c.args.packet.now) end in
+      let gives = tally_gives (tree_of c.args.policy.now) c.args.switch c.args.packet.now (n + 1) in
+      cc (c.count_sends.ensures n h),
 )

@@ -1,11 +1,14 @@
--- The walk stands for the trees that the nodes so far leave untaken.
-use Rattle.std.proofs.Common.{map}
-use Rattle.packet.specs.Written.{written}
-use Rattle.policy.specs.Shapes.{shape}
-use Rattle.packet.specs.Items.{items_of}
-use Rattle.policy.specs.Trees.{after}
-use Rattle.policy.specs.Walks.{Stands}
+-- The walk stands for some trees, on which the nodes to come leave what all of them leave, and holds no more than there were nodes.
+use Rattle.std.proofs.Common.{◌≤◌, Some}
+use Rattle.policy.specs.Trees.{Untaken}
+use Rattle.policy.specs.Walks.{StandsFor, held}
+use Rattle.policy.proofs.Leading.{Leads}
 use Rattle.policy.proofs.evaluator.evaluate.Given as goal
 
-abbrev pub invariant-loop-i : goal.invariant-loop-i
-invariant-loop-i l = Stands (after (map shape l.nodes) l.i) l.switch l.packet (items_of l.walk.truths) (items_of l.walk.starts) (map written (items_of l.walk.sends))
+abbrev pub invariant-loop-node : goal.invariant-loop-node
+invariant-loop-node l = record {
+  trees : Untaken;
+  stands : StandsFor trees l.switch l.packet l.walk;
+  leads : Leads l.node-items l.node-index (Some trees);
+  few : held l.walk ≤ l.node-index;
+}

@@ -1,10 +1,15 @@
--- The kinds are those of the trees that the nodes so far leave untaken.
-use Rattle.std.proofs.Common.{◌≡◌, ◌≤◌, true, map, length, take, is_some}
+-- The kinds are those of some trees, on which the nodes to come leave what all of them leave.
+use Rattle.std.proofs.Common.{◌≡◌, ◌≤◌, length, Some}
 use Rattle.packet.specs.Items.{items_of}
 use Rattle.policy.specs.Building.{kinds_of}
-use Rattle.policy.specs.Shapes.{shape}
-use Rattle.policy.specs.Trees.{stack_of, after}
+use Rattle.policy.specs.Trees.{Untaken}
+use Rattle.policy.proofs.Leading.{Leads}
 use Rattle.policy.proofs.policy.Policy.from_nodes.Given as goal
 
 abbrev pub invariant-loop-node : goal.invariant-loop-node
-invariant-loop-node l = (is_some (stack_of (take l.node-index (map shape l.list))) ≡ true) × (items_of l.kinds ≡ kinds_of (after (map shape l.list) l.node-index)) × (length (items_of l.kinds) ≤ l.node-index)
+invariant-loop-node l = record {
+  trees : Untaken;
+  kinds : items_of l.kinds ≡ kinds_of trees;
+  leads : Leads l.node-items l.node-index (Some trees);
+  few : length (items_of l.kinds) ≤ l.node-index;
+}
