@@ -28,19 +28,16 @@ got_none true x e = let z : ◌≡◌ {A = ℕ} 0 1 = cc in absurd (omega arith)
 got_none false x e = refl
 
 -- what a layout owes beside the laws of its cells, where `own` is the cell of a test
-pub record Laid {P C : Type 0} (layout : Layout P C) (own : Test → C) : Type 0 where
-  pub all_cells : layout.at layout.all ≡ (λ f. layout.cell.blank)
-  pub join_cells : (p q : P) → layout.at (layout.join p q) ≡ both_all layout.cell (layout.at p) (layout.at q)
-  pub pattern_cells : (t : Test) → layout.carried t ≡ true → layout.at (layout.pattern t) ≡ test_cells layout.cell (way t.field) t.field (own t)
-  pub own_sized : (t : Test) → layout.carried t ≡ true → layout.cell.sized t.field (own t) ≡ true
-  pub own_takes : (t : Test) → layout.carried t ≡ true → (x : ℕ) → allowed t.field x ≡ true → layout.cell.takes t.field (own t) x ≡ accepts t x
+pub record Laid {P C : Type 0} (cell : Cell C) (layout : Layout P C) (own : Test → C) : Type 0 where
+  pub all_cells : layout.at layout.all ≡ (λ f. cell.blank)
+  pub join_cells : (p q : P) → layout.at (layout.join p q) ≡ both_all cell (layout.at p) (layout.at q)
+  pub pattern_cells : (t : Test) → layout.carried t ≡ true → layout.at (layout.pattern t) ≡ test_cells cell (way t.field) t.field (own t)
+  pub own_sized : (t : Test) → layout.carried t ≡ true → cell.sized t.field (own t) ≡ true
+  pub own_takes : (t : Test) → layout.carried t ≡ true → (x : ℕ) → allowed t.field x ≡ true → cell.takes t.field (own t) x ≡ accepts t x
 
-module _ {P C : Type 0} (layout : Layout P C) (cell_laws : CellLaws layout.cell) (own : Test → C) (laid : Laid layout own) where
+module _ {P C : Type 0} (cell : Cell C) (layout : Layout P C) (cell_laws : CellLaws cell) (own : Test → C) (laid : Laid cell layout own) where
   abbrev kind : Kind P
-  kind = kind_of layout
-
-  abbrev cell : Cell C
-  cell = layout.cell
+  kind = kind_of cell layout
 
   abbrev cells : P → Field → C
   cells = layout.at
@@ -63,7 +60,7 @@ module _ {P C : Type 0} (layout : Layout P C) (cell_laws : CellLaws layout.cell)
   pattern_hit t h k =
       ap (λ c. hits_all cell c (number k)) (laid.pattern_cells t h)
       ∙ test_hit cell cell_laws t.field (way t.field) (way_of t.field) (own t) (number k) (lawful_number k)
-      ∙ ap (λ b. b && layout.cell.takes t.field (own t) (number k t.field)) (sym (exists_way (number k) t.field))
+      ∙ ap (λ b. b && cell.takes t.field (own t) (number k t.field)) (sym (exists_way (number k) t.field))
       ∙ ap (λ b. exists (number k) t.field && b) (laid.own_takes t h (number k t.field) (number_allowed (number k) (lawful_number k) t.field))
 
   module _ (p q : P) (mp : kind.made p ≡ true) (mq : kind.made q ≡ true) where
@@ -96,7 +93,7 @@ module _ {P C : Type 0} (layout : Layout P C) (cell_laws : CellLaws layout.cell)
           | inr c ↦ (let w = escaped cell cell_laws (cells p) (cells q) mp mq c in absurd (both_ways _ w.2 (h w.0 w.1)))
         ]
 
-  pub kind_laws : Laws (kind_of layout)
+  pub kind_laws : Laws (kind_of cell layout)
   kind_laws =
       record {
         all_made = all_made;

@@ -69,7 +69,6 @@ own t = record { value = t.value; length = t.length }
 abbrev pub routes : Layout RoutePattern Prefix
 routes =
     record {
-      cell = prefixes;
       at = at;
       all = all;
       join = λ p q. record { network = p.network || q.network; nwsrc = longer p.nwsrc q.nwsrc; nwdst = longer p.nwdst q.nwdst };
@@ -78,4 +77,4 @@ routes =
     }
 
 abbrev pub route_kind : Kind RoutePattern
-route_kind = kind_of routes
+route_kind = kind_of prefixes routes

@@ -1,8 +1,6 @@
 ghost use Rattle.std.specs.Prelude.{◌≡◌};
 ghost use Rattle.header.specs.Cells.{Cell as Cells};
 ghost use Rattle.header.specs.CellLaws.{CellLaws};
-ghost use Rattle.header.specs.Frames.{exact};
-ghost use Rattle.header.specs.Exact.{exact_laws};
 
 use packet::Field;
 
@@ -29,27 +27,4 @@ pub trait Cell: Copy {
 
     /// The laws of a cell, which each type of cells proves.
     ghost keeps: { CellLaws cell };
-}
-
-/// The number that a field must have, or none where any number does.
-impl Cell for Option<u64> {
-    ghost cell = { exact };
-
-    ghost keeps = { exact_laws };
-
-    fn takes(self, _field: Field, number: u64) -> bool {
-        self.is_none_or(|stated| stated == number)
-    }
-
-    fn agrees(self, field: Field, other: Option<u64>) -> bool {
-        self.is_none_or(|stated| other.takes(field, stated))
-    }
-
-    fn both(self, _field: Field, other: Option<u64>) -> Option<u64> {
-        self.or(other)
-    }
-
-    fn covers(self, _field: Field, other: Option<u64>) -> bool {
-        self.is_none() || self == other
-    }
 }

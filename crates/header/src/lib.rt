@@ -5,10 +5,12 @@ mod cell;
 mod frame;
 mod kind;
 mod overlaps;
+mod pattern;
 mod route;
 
 pub use cell::Cell;
 pub use frame::FramePattern;
 pub use kind::HeaderKind;
 pub use overlaps::{Overlap, compare, meet_all};
+pub use pattern::CellPattern;
 pub use route::{Prefix, RoutePattern};

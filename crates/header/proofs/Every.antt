@@ -1,0 +1,10 @@
+-- A test that the fields pass one after the other is one that every field passes.
+use Rattle.std.proofs.Common.{◌≡◌, Bool}
+use Rattle.std.specs.List.{list_all}
+use Rattle.packet.specs.Fields.{every}
+use Rattle.packet.specs.declared.field.Field.{Field}
+use Rattle.header.specs.Cells.{fields}
+use Rattle.header.specs.Truth.{and_right_true, and_assoc}
+
+pub all_every : (P : Field → Bool) → list_all P fields ≡ every P
+all_every P = simp (and_right_true, and_assoc)
