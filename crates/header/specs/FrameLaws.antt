@@ -23,10 +23,7 @@ all_bits t h x = let e : width t.field - t.length ≡ 0 = omega (arith, eqb-true
 eqb_sym : (x y : ℕ) → (x == y) ≡ (y == x)
 eqb_sym x y = same_truth _ _ (λ h. eq-eqb y x (sym (eqb-true x y h))) (λ h. eq-eqb x y (sym (eqb-true y x h)))
 
-abbrev pub own : Test → Option ℕ
-own t = Some t.value
-
-pub laid : Laid exact frames own
+pub laid : Laid exact frames
 laid =
     record {
       all_cells = at_of_cells _;
@@ -37,4 +34,4 @@ laid =
     }
 
 pub frame_laws : Laws frame_kind
-frame_laws = kind_laws exact frames exact_laws own laid
+frame_laws = kind_laws exact frames exact_laws laid

@@ -62,6 +62,9 @@ of_cells c = record { cells = map c fields }
 abbrev pub carried : Test → Bool
 carried t = t.length == width t.field
 
+abbrev pub own : Test → Option ℕ
+own t = Some t.value
+
 -- the pattern of a test states its value, and what its field needs to exist; the join states what either does
 abbrev pub frames : Layout FramePattern (Option ℕ)
 frames =
@@ -70,7 +73,8 @@ frames =
       all = of_cells (λ f. None);
       join = λ p q. of_cells (both_all exact (at p) (at q));
       carried = carried;
-      pattern = λ t. of_cells (test_cells exact (way t.field) t.field (Some t.value));
+      own = own;
+      pattern = λ t. of_cells (test_cells exact (way t.field) t.field (own t));
     }
 
 abbrev pub frame_kind : Kind FramePattern

@@ -13,8 +13,9 @@ pub record Layout (P C : Type 0) : Type 0 where
   -- the pattern that asks nothing, and the one that asks what either of two does
   pub all : P
   pub join : P → P → P
-  -- the tests that the kind carries, and the pattern of a test
+  -- the tests that the kind carries, the cell of a test in its own field, and the pattern of a test
   pub carried : Test → Bool
+  pub own : Test → C
   pub pattern : Test → P
 
 -- the kind, field by field: hit where each number is taken, met where all cells agree, covered where all cells are

@@ -44,7 +44,7 @@ address_kept f c h =
       | inr e ↦ subst (Kept c) (sym (same_true f NwDst e)) (same_row _ (test_cells prefixes (way NwDst) NwDst c) refl refl refl refl refl refl refl refl)
     ]
 
-pub laid : Laid prefixes routes own
+pub laid : Laid prefixes routes
 laid =
     record {
       all_cells = all_cells;
@@ -55,7 +55,7 @@ laid =
     }
 
 pub route_laws : Laws route_kind
-route_laws = kind_laws prefixes routes prefix_laws own laid
+route_laws = kind_laws prefixes routes prefix_laws laid
 
 -- nothing is asked of the other fields
 pub hit_parts : (p : RoutePattern) (k : Packet) → route_kind.hit p k ≡ (((not p.network || number k DlTyp == 2048) && takes NwSrc p.nwsrc (number k NwSrc)) && takes NwDst p.nwdst (number k NwDst))

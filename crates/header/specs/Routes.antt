@@ -73,6 +73,7 @@ routes =
       all = all;
       join = λ p q. record { network = p.network || q.network; nwsrc = longer p.nwsrc q.nwsrc; nwdst = longer p.nwdst q.nwdst };
       carried = λ t. routed t.field;
+      own = own;
       pattern = λ t. cond (routed t.field) (of_cells (test_cells prefixes (way t.field) t.field (own t))) all;
     }
 

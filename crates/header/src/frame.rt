@@ -2,7 +2,7 @@ ghost use Rattle.std.specs.Prelude.{◌≡◌, Some, cond};
 ghost use Rattle.packet.specs.Fields.{same};
 ghost use Rattle.header.specs.Frames.{exact, at, of_cells, frames};
 ghost use Rattle.header.specs.Exact.{exact_laws};
-ghost use Rattle.header.specs.FrameLaws.{own, laid};
+ghost use Rattle.header.specs.FrameLaws.{laid};
 
 use crate::cell::Cell;
 use crate::pattern::{CellPattern, FIELDS};
@@ -39,18 +39,11 @@ impl Cell for Option<u64> {
 
 impl FramePattern {
     /// The pattern that states one field more.
-    fn with(self, field: Field, number: u64) -> FramePattern
+    fn with(mut self, field: Field, number: u64) -> FramePattern
         ensures { result ≡ of_cells (λ g. cond (same field g) (Some number) (at self g)) }
     {
-        FramePattern {
-            cells: FIELDS.map(|each| {
-                if each.place() == field.place() {
-                    Some(number)
-                } else {
-                    self.at(each)
-                }
-            }),
-        }
+        self.cells[field.place()] = Some(number);
+        self
     }
 }
 
@@ -59,8 +52,6 @@ impl CellPattern for FramePattern {
     type Of = Option<u64>;
 
     ghost layout = { frames };
-
-    ghost own = { own };
 
     ghost laid = { laid };
 

@@ -1,5 +1,4 @@
 ghost use Rattle.std.specs.Prelude.{◌≡◌};
-ghost use Rattle.packet.specs.declared.test.Test.{Test};
 ghost use Rattle.header.specs.Cells.{agrees_all};
 ghost use Rattle.header.specs.Layouts.{Layout, kind_of};
 ghost use Rattle.header.specs.KindLaws.{Laid, kind_laws};
@@ -28,9 +27,6 @@ pub trait CellPattern: Copy {
     /// How patterns, and the tests that have one, look as cells.
     ghost layout: { Layout Self Self.Of };
 
-    /// The cell of a test.
-    ghost own: { Test → Self.Of };
-
     /// Whether a test has a pattern.
     fn carried(test: &Test) -> bool
         ensures { result ≡ layout.carried test.now };
@@ -52,7 +48,7 @@ pub trait CellPattern: Copy {
         ensures { result ≡ layout.join self.now other.now };
 
     /// What each kind of such patterns proves.
-    ghost laid: { Laid Self.Of.cell layout own };
+    ghost laid: { Laid Self.Of.cell layout };
 }
 
 /// Whether the cells of each field agree.
@@ -68,7 +64,7 @@ fn agrees<P: CellPattern>(first: &P, second: &P) -> bool
 impl<P: CellPattern> HeaderKind for P {
     ghost kind = { kind_of P.Of.cell P.layout };
 
-    ghost keeps = { kind_laws P.Of.cell P.layout P.Of.keeps P.own P.laid };
+    ghost keeps = { kind_laws P.Of.cell P.layout P.Of.keeps P.laid };
 
     fn carries(test: &Test) -> bool {
         P::carried(test)

@@ -88,8 +88,6 @@ impl CellPattern for RoutePattern {
 
     ghost layout = { routes };
 
-    ghost own = { own };
-
     ghost laid = { laid };
 
     fn carried(test: &Test) -> bool {
