@@ -59,8 +59,3 @@ module _ {P : Type 0} (kind : Kind P) (laws : Laws kind) where
 
   pub leaves_each : (ps : List P) → made_each kind ps ≡ true → Leaves kind (hits_each kind ps) (met_each kind (Some kind.all) ps)
   leaves_each = leaves_from (λ k. true) (Some kind.all) leaves_all
-
--- one pattern of a list met, and those after it still to come
-pub met_more : {P : Type 0} (kind : Kind P) (ps : List P) (i : ℕ) (p : P) → i < length ps → p ≡ get_or ps i p → (m n : Option P) → n ≡ met_with kind m p → met_each kind n (drop (i + 1) ps) ≡ met_each kind m (drop i ps)
-met_more kind ps i p within is m n e =
-    ap (λ o. met_each kind o (drop (i + 1) ps)) (e ∙ ap (met_with kind m) is) ∙ sym (at_drop_more (met_each kind m) ps i p within)

@@ -13,11 +13,12 @@ use denote.Param.Members.{Mut}
 use Rattle.header.specs.Laws.{Kind}
 use Rattle.header.specs.Overlaps.{met_each}
 
-module _ {P A F : Type 0} (E : Type 0) (kind : Kind P) (v : A → P) (g : Mut F (P × (A × Unit {0})) (Option P)) (f : F) (meets : (m : P) (x : A) (o : Option P) (q : F) → Called g f (m, (x, tt)) o q → (q ≡ f) × (o ≡ kind.meeting m (v x))) where
-  met_none : (ps : List P) → met_each kind None ps ≡ None
-  met_none [] = refl
-  met_none (p ∷ ps) = met_none ps
+-- where two did not meet, nothing is left
+met_none : {P : Type 0} (kind : Kind P) (ps : List P) → met_each kind None ps ≡ None
+met_none kind [] = refl
+met_none kind (p ∷ ps) = met_none kind ps
 
+module _ {P A F : Type 0} (E : Type 0) (kind : Kind P) (v : A → P) (g : Mut F (P × (A × Unit {0})) (Option P)) (f : F) (meets : (m : P) (x : A) (o : Option P) (q : F) → Called g f (m, (x, tt)) o q → (q ≡ f) × (o ≡ kind.meeting m (v x))) where
   abbrev Turn : F × P → A → F × P → Type 0
   Turn = TryFoldTurn g (λ (o : Option P) (c : ControlFlow E P). o ≡ continue_value c)
 
@@ -44,5 +45,5 @@ module _ {P A F : Type 0} (E : Type 0) (kind : Kind P) (v : A → P) (g : Mut F 
       at_drop_more (met_each kind (Some a)) all (length xs) (v x) turn.0
       ∙ ap (λ p. met_each kind (kind.meeting a p) (drop (length xs + 1) all)) (sym turn.1)
       ∙ ap (λ m. met_each kind m (drop (length xs + 1) all)) (sym now.1 ∙ broke)
-      ∙ met_none (drop (length xs + 1) all) in
+      ∙ met_none kind (drop (length xs + 1) all) in
       e ∙ sym none ∙ sym so.1 ∙ ap (met_each kind (Some init)) split

@@ -9,7 +9,7 @@ use crate::pattern::{CellPattern, FIELDS};
 use packet::{Field, IP, TCP, Test};
 
 /// A pattern of the frame kind: for each field, in their order, the number that it must have, or none where any number does.
-#[derive(Clone, Copy)]
+#[derive(Clone, Copy, PartialEq, Eq, Debug)]
 pub struct FramePattern {
     pub cells: [Option<u64>; 8],
 }

@@ -1,4 +1,5 @@
 ghost use Rattle.std.specs.Prelude.{◌≡◌, ◌==◌};
+ghost use Rattle.packet.specs.Fields.{width};
 ghost use Rattle.packet.specs.Tests.{first_bits};
 ghost use Rattle.header.specs.Routes.{prefixes, routes, own};
 ghost use Rattle.header.specs.Prefixes.{prefix_laws};
@@ -9,14 +10,14 @@ use crate::pattern::CellPattern;
 use packet::{Field, IP, Test};
 
 /// The first bits of a network address: those of `value`, to the length.
-#[derive(Clone, Copy)]
+#[derive(Clone, Copy, PartialEq, Eq, Debug)]
 pub struct Prefix {
     pub value: u32,
     pub length: u8,
 }
 
 /// A pattern of the route kind: whether the packet has to be IP, and how each of its addresses begins.
-#[derive(Clone, Copy)]
+#[derive(Clone, Copy, PartialEq, Eq, Debug)]
 pub struct RoutePattern {
     pub network: bool,
     pub nwsrc: Prefix,
@@ -41,6 +42,19 @@ const ALL: RoutePattern = RoutePattern {
     nwsrc: ANY,
     nwdst: ANY,
 };
+
+impl Prefix {
+    /// The prefix that a test of a network address looks for.
+    fn of(test: &Test) -> Prefix
+        requires { width test.now.field ≡ 32 }
+        ensures { result ≡ own test.now }
+    {
+        Prefix {
+            value: test.value() as u32,
+            length: test.length(),
+        }
+    }
+}
 
 /// Whether two numbers of a field have the same first bits.
 fn same_bits(field: Field, a: u64, b: u64, length: u8) -> bool
@@ -101,17 +115,11 @@ impl CellPattern for RoutePattern {
         };
         match test.field() {
             Field::NwSrc => RoutePattern {
-                nwsrc: Prefix {
-                    value: test.value() as u32,
-                    length: test.length(),
-                },
+                nwsrc: Prefix::of(test),
                 ..network
             },
             Field::NwDst => RoutePattern {
-                nwdst: Prefix {
-                    value: test.value() as u32,
-                    length: test.length(),
-                },
+                nwdst: Prefix::of(test),
                 ..network
             },
             _ => ALL,
