@@ -49,7 +49,7 @@ impl FramePattern {
 
 /// Tests of full length on every field; a pattern states whole numbers.
 impl CellPattern for FramePattern {
-    type Of = Option<u64>;
+    type Cell = Option<u64>;
 
     ghost layout = { frames };
 
@@ -61,10 +61,11 @@ impl CellPattern for FramePattern {
 
     fn pattern(test: &Test) -> FramePattern {
         let blank = FramePattern::blank();
+        let network = blank.with(Field::DlTyp, IP);
         let needed = match test.field() {
             Field::DlSrc | Field::DlDst | Field::DlTyp => blank,
-            Field::NwSrc | Field::NwDst | Field::NwProto => blank.with(Field::DlTyp, IP),
-            Field::TpSrc | Field::TpDst => blank.with(Field::DlTyp, IP).with(Field::NwProto, TCP),
+            Field::NwSrc | Field::NwDst | Field::NwProto => network,
+            Field::TpSrc | Field::TpDst => network.with(Field::NwProto, TCP),
         };
         needed.with(test.field(), test.value())
     }

@@ -22,10 +22,10 @@ pub const FIELDS: [Field; 8] = [
 /// A pattern with a cell for each field.
 pub trait CellPattern: Copy {
     /// What a pattern says of one field.
-    type Of: Cell;
+    type Cell: Cell;
 
     /// How patterns, and the tests that have one, look as cells.
-    ghost layout: { Layout Self Self.Of };
+    ghost layout: { Layout Self Self.Cell };
 
     /// Whether a test has a pattern.
     fn carried(test: &Test) -> bool
@@ -40,7 +40,7 @@ pub trait CellPattern: Copy {
         ensures { result ≡ layout.all };
 
     /// What the pattern says of a field.
-    fn at(&self, field: Field) -> Self::Of
+    fn at(&self, field: Field) -> Self::Cell
         ensures { result ≡ layout.at self.now field };
 
     /// The pattern that asks what either does.
@@ -48,12 +48,12 @@ pub trait CellPattern: Copy {
         ensures { result ≡ layout.join self.now other.now };
 
     /// What each kind of such patterns proves.
-    ghost laid: { Laid Self.Of.cell layout };
+    ghost laid: { Laid Self.Cell.cell layout };
 }
 
 /// Whether the cells of each field agree.
 fn agrees<P: CellPattern>(first: &P, second: &P) -> bool
-    ensures { result ≡ agrees_all P.Of.cell (P.layout.at first.now) (P.layout.at second.now) }
+    ensures { result ≡ agrees_all P.Cell.cell (P.layout.at first.now) (P.layout.at second.now) }
 {
     FIELDS
         .iter()
@@ -62,9 +62,9 @@ fn agrees<P: CellPattern>(first: &P, second: &P) -> bool
 
 /// Field by field: hit where each number is taken, met where all cells agree, covered where all cells are.
 impl<P: CellPattern> HeaderKind for P {
-    ghost kind = { kind_of P.Of.cell P.layout };
+    ghost kind = { kind_of P.Cell.cell P.layout };
 
-    ghost keeps = { kind_laws P.Of.cell P.layout P.Of.keeps P.laid };
+    ghost keeps = { kind_laws P.Cell.cell P.layout P.Cell.keeps P.laid };
 
     fn carries(test: &Test) -> bool {
         P::carried(test)
@@ -79,9 +79,7 @@ impl<P: CellPattern> HeaderKind for P {
     }
 
     fn hits(&self, packet: &Packet) -> bool {
-        FIELDS
-            .iter()
-            .all(|field| self.at(*field).takes(*field, packet.number(*field)))
+        FIELDS.iter().all(|field| self.at(*field).takes(*field, packet.number(*field)))
     }
 
     fn meet(&self, other: &P) -> Option<P> {

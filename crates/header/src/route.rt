@@ -98,7 +98,7 @@ impl Cell for Prefix {
 
 /// Tests of any length on the two network addresses.
 impl CellPattern for RoutePattern {
-    type Of = Prefix;
+    type Cell = Prefix;
 
     ghost layout = { routes };
 

@@ -8,5 +8,5 @@ use Rattle.header.proofs.pattern.AnyHeaderKind.covers.Goals as goal
 
 pub returns : goal.returns
 returns g c =
-    let P = λ (f : Field). g.P.Of.Cell.cell.covers f (g.P.CellPattern.layout.at c.args.self.now f) (g.P.CellPattern.layout.at c.args.other.now f) in
+    let P = λ (f : Field). g.P.Cell.Cell.cell.covers f (g.P.CellPattern.layout.at c.args.self.now f) (g.P.CellPattern.layout.at c.args.other.now f) in
     all_from_yields_List P _ _ c.all.result c.all.ensures.ran (YieldsList-from_slice fields cc) (λ x b q k. search rules) ∙ all_every P

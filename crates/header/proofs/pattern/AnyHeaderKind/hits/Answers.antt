@@ -9,5 +9,5 @@ use Rattle.header.proofs.pattern.AnyHeaderKind.hits.Goals as goal
 
 pub returns : goal.returns
 returns g c =
-    let P = λ (f : Field). g.P.Of.Cell.cell.takes f (g.P.CellPattern.layout.at c.args.self.now f) (number c.args.packet.now f) in
+    let P = λ (f : Field). g.P.Cell.Cell.cell.takes f (g.P.CellPattern.layout.at c.args.self.now f) (number c.args.packet.now f) in
     all_from_yields_List P _ _ c.all.result c.all.ensures.ran (YieldsList-from_slice fields cc) (λ x b q k. search rules) ∙ all_every P
