@@ -5,7 +5,7 @@ use Rattle.std.proofs.lemmas.List.{at_drop_more}
 use Rattle.std.proofs.lemmas.Bool.{and_parts, and_left, true≢false}
 use Rattle.packet.proofs.Witness.{packet_of}
 use Rattle.packet.specs.declared.packet.Packet.{Packet}
-use Rattle.header.specs.Truth.{and_right_true, and_assoc}
+use Rattle.std.proofs.Math.Bool.{and_assoc, and-true}
 use Rattle.header.specs.Laws.{Kind, Laws}
 use Rattle.header.specs.Overlaps.{Inside, Disjoint, Lies, case_of, compared, hits_each, made_each, met_with, met_each, Leaves}
 
@@ -51,7 +51,7 @@ module _ {P : Type 0} (kind : Kind P) (laws : Laws kind) where
   leaves_with packets (Some m) p left mp = leaves_met packets m p left mp (kind.meeting m p) refl
 
   leaves_from : (packets : Packet → Bool) (m : Option P) → Leaves kind packets m → (ps : List P) → made_each kind ps ≡ true → Leaves kind (λ k. packets k && hits_each kind ps k) (met_each kind m ps)
-  leaves_from packets m left [] e = subst (λ a. Leaves kind a m) (fun_ext (λ k. sym (and_right_true (packets k)))) left
+  leaves_from packets m left [] e = subst (λ a. Leaves kind a m) (fun_ext (λ k. sym (and-true (packets k)))) left
   leaves_from packets m left (p ∷ ps) e =
       let parts = and_parts (kind.made p) (made_each kind ps) e in
       subst (λ a. Leaves kind a (met_each kind (met_with kind m p) ps)) (fun_ext (λ k. and_assoc (packets k) (kind.hit p k) (hits_each kind ps k)))
