@@ -1,12 +1,6 @@
-use Rattle.std.proofs.Common.{rules, ◌∙◌}
-use Rattle.std.proofs.lemmas.Iterator.{YieldsList-from_slice}
-use Rattle.std.proofs.lemmas.Iterator.Search.{all_from_yields_List}
-use Rattle.packet.specs.declared.field.Field.{Field}
-use Rattle.header.proofs.Every.{all_every}
-use Rattle.header.specs.Cells.{fields}
+use Rattle.std.proofs.Common.{rules}
+use Rattle.header.proofs.Every.{every_of_all}
 use Rattle.header.proofs.pattern.agrees.Goals as goal
 
 pub returns : goal.returns
-returns g c =
-    let P = λ (f : Field). g.P.Cell.Cell.cell.agree f (g.P.CellPattern.layout.at c.args.first.now f) (g.P.CellPattern.layout.at c.args.second.now f) in
-    all_from_yields_List P _ _ c.all.result c.all.ensures.ran (YieldsList-from_slice fields cc) (λ x b q k. search rules) ∙ all_every P
+returns g c = every_of_all (λ f. g.P.Cell.Cell.cell.agree f (g.P.CellPattern.layout.at c.args.first.now f) (g.P.CellPattern.layout.at c.args.second.now f)) _ _ _ c.all.ensures.ran (cc) (λ x b q k. search rules)
