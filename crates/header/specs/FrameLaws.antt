@@ -1,5 +1,5 @@
 -- The frame kind keeps the four laws.
-use Rattle.std.specs.Prelude.{◌≡◌, ℕ, ◌-◌, true, Some, Option, ◌==◌, refl}
+use Rattle.std.specs.Prelude.{◌≡◌, ℕ, ◌-◌, true, Option, ◌==◌, refl}
 use Rattle.std.proofs.Common.{sym, arith}
 use Rattle.std.proofs.lemmas.Bool.{and_parts, eqb-true, eq-eqb}
 use Rattle.packet.proofs.Every.{same_row}
