@@ -49,6 +49,7 @@ impl Prefix {
         requires { width test.now.field ≡ 32 }
         ensures { result ≡ own test.now }
     {
+        // An address has 32 bits: the cast loses none.
         Prefix {
             value: test.value() as u32,
             length: test.length(),
