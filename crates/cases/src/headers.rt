@@ -93,7 +93,7 @@ fn frame_patterns(rt: HostRuntime) -> Result<(), Fail> {
     check_hits(&rt, &first, &[true, true, true, false, true, false])?;
     check_hits(&rt, &web, &[true, false, false, true, false, false])?;
     check_hits(&rt, &ip, &[true, true, true, true, false, false])?;
-    check_hits(&rt, &<FramePattern as HeaderKind>::all(), &[true; 6])?;
+    check_hits(&rt, &FramePattern::all(), &[true; 6])?;
     assert_eq!(rt; web.at(Field::DlTyp), Some(2048));
     assert_eq!(rt; web.at(Field::NwProto), Some(6));
     check_meet(
@@ -106,12 +106,7 @@ fn frame_patterns(rt: HostRuntime) -> Result<(), Fail> {
     check_covers(&rt, &ip, &web, Overlap::Around);
     check_covers(&rt, &first, &web, Overlap::Partial);
     check_covers(&rt, &web, &shell, Overlap::Apart);
-    check_covers(
-        &rt,
-        &first,
-        &<FramePattern as HeaderKind>::all(),
-        Overlap::Within,
-    );
+    check_covers(&rt, &first, &FramePattern::all(), Overlap::Within);
     Ok(())
 }
 
@@ -125,7 +120,7 @@ fn route_patterns(rt: HostRuntime) -> Result<(), Fail> {
     check_hits(&rt, &sixteen, &[true, true, true, false, false, false])?;
     check_hits(&rt, &other, &[false, false, false, true, false, false])?;
     check_hits(&rt, &ip, &[true, true, true, true, false, false])?;
-    check_hits(&rt, &<RoutePattern as HeaderKind>::all(), &[true; 6])?;
+    check_hits(&rt, &RoutePattern::all(), &[true; 6])?;
     assert!(rt; ip.network);
     check_meet(
         &rt,
@@ -136,22 +131,17 @@ fn route_patterns(rt: HostRuntime) -> Result<(), Fail> {
     check_meet(&rt, &eight, &other, None)?;
     check_covers(&rt, &eight, &sixteen, Overlap::Around);
     check_covers(&rt, &other, &ip, Overlap::Within);
-    check_covers(
-        &rt,
-        &<RoutePattern as HeaderKind>::all(),
-        &ip,
-        Overlap::Around,
-    );
+    check_covers(&rt, &RoutePattern::all(), &ip, Overlap::Around);
     Ok(())
 }
 
 #[test]
 fn carried_tests(rt: HostRuntime) -> Result<(), Fail> {
-    assert!(rt; <FramePattern as HeaderKind>::carries(&to(TEN, 32)?));
-    assert!(rt; !<FramePattern as HeaderKind>::carries(&to(TEN, 8)?));
-    assert!(rt; <RoutePattern as HeaderKind>::carries(&to(TEN, 8)?));
-    assert!(rt; <RoutePattern as HeaderKind>::carries(&to(0, 0)?));
-    assert!(rt; !<RoutePattern as HeaderKind>::carries(&whole(Field::TpDst, 80)?));
+    assert!(rt; FramePattern::carries(&to(TEN, 32)?));
+    assert!(rt; !FramePattern::carries(&to(TEN, 8)?));
+    assert!(rt; RoutePattern::carries(&to(TEN, 8)?));
+    assert!(rt; RoutePattern::carries(&to(0, 0)?));
+    assert!(rt; !RoutePattern::carries(&whole(Field::TpDst, 80)?));
     Ok(())
 }
 
