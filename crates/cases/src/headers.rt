@@ -1,5 +1,5 @@
 //! The pattern algebra of both header kinds, on a table of packets and patterns.
-use header::{FramePattern, HeaderKind, Overlap, RoutePattern, compare, meet_all};
+use header::{CellPattern, FramePattern, HeaderKind, Overlap, RoutePattern, compare, meet_all};
 use packet::{Field, Packet, Test};
 use std::process::Abort;
 use std::test::Fail;
@@ -18,10 +18,7 @@ const NUMBERS: [[u64; 8]; 6] = [
 
 /// The test of the first bits of a field.
 fn bits(field: Field, value: u64, length: u8) -> Result<Test, Fail> {
-    match Test::new(field, value, length) {
-        Some(test) => Ok(test),
-        None => Err(Fail::new("no room for the value or the length")),
-    }
+    Test::new(field, value, length).ok_or_else(|| Fail::new("no room for the value or the length"))
 }
 
 /// The test of a field's whole number.
@@ -49,10 +46,8 @@ fn check_hits<K: HeaderKind>(
     pattern: &K,
     expected: &[bool; 6],
 ) -> Result<(), Fail> {
-    for (numbers, hit) in NUMBERS.iter().zip(expected.iter()) {
-        let Ok(packet) = Packet::new(numbers) else {
-            return Err(Fail::new("no packet"));
-        };
+    for (numbers, hit) in NUMBERS.iter().zip(expected) {
+        let packet = Packet::new(numbers).map_err(|_| Fail::new("no packet"))?;
         assert_eq!(rt; pattern.hits(&packet), *hit);
     }
     Ok(())
@@ -77,30 +72,30 @@ fn check_meet<K: HeaderKind>(
 
 /// Checks which of two patterns cover the other, and how they compare.
 fn check_covers<K: HeaderKind>(rt: &impl Abort, a: &K, b: &K, overlap: Overlap) {
-    let (first, second) = match overlap {
-        Overlap::Apart | Overlap::Partial => (false, false),
-        Overlap::Same => (true, true),
-        Overlap::Within => (false, true),
-        Overlap::Around => (true, false),
-    };
-    assert_eq!(rt; a.covers(b), first);
-    assert_eq!(rt; b.covers(a), second);
-    assert_eq!(rt; compare(a, a) as u8, Overlap::Same as u8);
-    assert_eq!(rt; compare(a, b) as u8, overlap as u8);
+    assert_eq!(rt;
+        a.covers(b),
+        matches!(overlap, Overlap::Same | Overlap::Around)
+    );
+    assert_eq!(rt;
+        b.covers(a),
+        matches!(overlap, Overlap::Same | Overlap::Within)
+    );
+    assert_eq!(rt; compare(a, a), Overlap::Same);
+    assert_eq!(rt; compare(a, b), overlap);
 }
 
 #[test]
 fn frame_patterns(rt: HostRuntime) -> Result<(), Fail> {
-    let first: FramePattern = pattern::<FramePattern>(&whole(Field::DlDst, 1)?)?;
-    let web: FramePattern = pattern::<FramePattern>(&whole(Field::TpDst, 80)?)?;
-    let shell: FramePattern = pattern::<FramePattern>(&whole(Field::TpDst, 22)?)?;
-    let ip: FramePattern = pattern::<FramePattern>(&whole(Field::DlTyp, 2048)?)?;
+    let first: FramePattern = pattern(&whole(Field::DlDst, 1)?)?;
+    let web: FramePattern = pattern(&whole(Field::TpDst, 80)?)?;
+    let shell: FramePattern = pattern(&whole(Field::TpDst, 22)?)?;
+    let ip: FramePattern = pattern(&whole(Field::DlTyp, 2048)?)?;
     check_hits(&rt, &first, &[true, true, true, false, true, false])?;
     check_hits(&rt, &web, &[true, false, false, true, false, false])?;
     check_hits(&rt, &ip, &[true, true, true, true, false, false])?;
-    check_hits(&rt, &<FramePattern as HeaderKind>::all(), &[true; 6])?;
-    assert_eq!(rt; web.dltyp, Some(2048));
-    assert_eq!(rt; web.nwproto, Some(6));
+    check_hits(&rt, &FramePattern::all(), &[true; 6])?;
+    assert_eq!(rt; web.at(Field::DlTyp), Some(2048));
+    assert_eq!(rt; web.at(Field::NwProto), Some(6));
     check_meet(
         &rt,
         &first,
@@ -111,26 +106,21 @@ fn frame_patterns(rt: HostRuntime) -> Result<(), Fail> {
     check_covers(&rt, &ip, &web, Overlap::Around);
     check_covers(&rt, &first, &web, Overlap::Partial);
     check_covers(&rt, &web, &shell, Overlap::Apart);
-    check_covers(
-        &rt,
-        &first,
-        &<FramePattern as HeaderKind>::all(),
-        Overlap::Within,
-    );
+    check_covers(&rt, &first, &FramePattern::all(), Overlap::Within);
     Ok(())
 }
 
 #[test]
 fn route_patterns(rt: HostRuntime) -> Result<(), Fail> {
-    let eight: RoutePattern = pattern::<RoutePattern>(&to(TEN, 8)?)?;
-    let sixteen: RoutePattern = pattern::<RoutePattern>(&to(TEN + 65536, 16)?)?;
-    let other: RoutePattern = pattern::<RoutePattern>(&to(11 << 24, 32)?)?;
-    let ip: RoutePattern = pattern::<RoutePattern>(&to(0, 0)?)?;
+    let eight: RoutePattern = pattern(&to(TEN, 8)?)?;
+    let sixteen: RoutePattern = pattern(&to(TEN + 65536, 16)?)?;
+    let other: RoutePattern = pattern(&to(11 << 24, 32)?)?;
+    let ip: RoutePattern = pattern(&to(0, 0)?)?;
     check_hits(&rt, &eight, &[true, true, true, false, false, false])?;
     check_hits(&rt, &sixteen, &[true, true, true, false, false, false])?;
     check_hits(&rt, &other, &[false, false, false, true, false, false])?;
     check_hits(&rt, &ip, &[true, true, true, true, false, false])?;
-    check_hits(&rt, &<RoutePattern as HeaderKind>::all(), &[true; 6])?;
+    check_hits(&rt, &RoutePattern::all(), &[true; 6])?;
     assert!(rt; ip.network);
     check_meet(
         &rt,
@@ -141,38 +131,33 @@ fn route_patterns(rt: HostRuntime) -> Result<(), Fail> {
     check_meet(&rt, &eight, &other, None)?;
     check_covers(&rt, &eight, &sixteen, Overlap::Around);
     check_covers(&rt, &other, &ip, Overlap::Within);
-    check_covers(
-        &rt,
-        &<RoutePattern as HeaderKind>::all(),
-        &ip,
-        Overlap::Around,
-    );
+    check_covers(&rt, &RoutePattern::all(), &ip, Overlap::Around);
     Ok(())
 }
 
 #[test]
 fn carried_tests(rt: HostRuntime) -> Result<(), Fail> {
-    assert!(rt; <FramePattern as HeaderKind>::carries(&to(TEN, 32)?));
-    assert!(rt; !<FramePattern as HeaderKind>::carries(&to(TEN, 8)?));
-    assert!(rt; <RoutePattern as HeaderKind>::carries(&to(TEN, 8)?));
-    assert!(rt; <RoutePattern as HeaderKind>::carries(&to(0, 0)?));
-    assert!(rt; !<RoutePattern as HeaderKind>::carries(&whole(Field::TpDst, 80)?));
+    assert!(rt; FramePattern::carries(&to(TEN, 32)?));
+    assert!(rt; !FramePattern::carries(&to(TEN, 8)?));
+    assert!(rt; RoutePattern::carries(&to(TEN, 8)?));
+    assert!(rt; RoutePattern::carries(&to(0, 0)?));
+    assert!(rt; !RoutePattern::carries(&whole(Field::TpDst, 80)?));
     Ok(())
 }
 
 #[test]
 fn several_patterns(rt: HostRuntime) -> Result<(), Fail> {
-    let first: FramePattern = pattern::<FramePattern>(&whole(Field::DlDst, 1)?)?;
-    let web: FramePattern = pattern::<FramePattern>(&whole(Field::TpDst, 80)?)?;
-    let shell: FramePattern = pattern::<FramePattern>(&whole(Field::TpDst, 22)?)?;
+    let first: FramePattern = pattern(&whole(Field::DlDst, 1)?)?;
+    let web: FramePattern = pattern(&whole(Field::TpDst, 80)?)?;
+    let shell: FramePattern = pattern(&whole(Field::TpDst, 22)?)?;
     let Some(nothing) = meet_all::<FramePattern>(&[]) else {
         return Err(Fail::new("nothing asked, and no packet"));
     };
     check_hits(&rt, &nothing, &[true; 6])?;
-    let Some(both) = meet_all::<FramePattern>(&[web, first, web]) else {
+    let Some(both) = meet_all(&[web, first, web]) else {
         return Err(Fail::new("no packet to the first by port 80"));
     };
     check_hits(&rt, &both, &[true, false, false, false, false, false])?;
-    assert!(rt; meet_all::<FramePattern>(&[first, web, shell]).is_none());
+    assert!(rt; meet_all(&[first, web, shell]).is_none());
     Ok(())
 }

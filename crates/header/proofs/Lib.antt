@@ -1,1 +1,3 @@
 pub mod Overlapping
+pub mod Every
+pub mod Tried

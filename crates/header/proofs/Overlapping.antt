@@ -1,11 +1,10 @@
 -- What the laws of a kind say of overlaps: how two patterns compare, and what the meet of several leaves.
-use Rattle.std.proofs.Common.{◌≡◌, ℕ, ◌+◌, ◌<◌, Bool, true, false, ◌&&◌, List, [], ◌∷◌, length, get_or, drop, is_some, Some, None, Option, sym, refl, ap, ◌∙◌, subst, arith}
+use Rattle.std.proofs.Common.{◌≡◌, ℕ, Bool, true, false, ◌&&◌, List, [], ◌∷◌, is_some, Some, None, Option, sym, refl, ap, ◌∙◌, subst, arith}
 use mathlib.Core.Path.{fun_ext}
-use Rattle.std.proofs.lemmas.List.{at_drop_more}
 use Rattle.std.proofs.lemmas.Bool.{and_parts, and_left, true≢false}
 use Rattle.packet.proofs.Witness.{packet_of}
 use Rattle.packet.specs.declared.packet.Packet.{Packet}
-use Rattle.header.specs.Truth.{and_right_true, and_assoc}
+use Rattle.std.proofs.Math.Bool.{and_assoc, and-true}
 use Rattle.header.specs.Laws.{Kind, Laws}
 use Rattle.header.specs.Overlaps.{Inside, Disjoint, Lies, case_of, compared, hits_each, made_each, met_with, met_each, Leaves}
 
@@ -51,7 +50,7 @@ module _ {P : Type 0} (kind : Kind P) (laws : Laws kind) where
   leaves_with packets (Some m) p left mp = leaves_met packets m p left mp (kind.meeting m p) refl
 
   leaves_from : (packets : Packet → Bool) (m : Option P) → Leaves kind packets m → (ps : List P) → made_each kind ps ≡ true → Leaves kind (λ k. packets k && hits_each kind ps k) (met_each kind m ps)
-  leaves_from packets m left [] e = subst (λ a. Leaves kind a m) (fun_ext (λ k. sym (and_right_true (packets k)))) left
+  leaves_from packets m left [] e = subst (λ a. Leaves kind a m) (fun_ext (λ k. sym (and-true (packets k)))) left
   leaves_from packets m left (p ∷ ps) e =
       let parts = and_parts (kind.made p) (made_each kind ps) e in
       subst (λ a. Leaves kind a (met_each kind (met_with kind m p) ps)) (fun_ext (λ k. and_assoc (packets k) (kind.hit p k) (hits_each kind ps k)))
@@ -59,8 +58,3 @@ module _ {P : Type 0} (kind : Kind P) (laws : Laws kind) where
 
   pub leaves_each : (ps : List P) → made_each kind ps ≡ true → Leaves kind (hits_each kind ps) (met_each kind (Some kind.all) ps)
   leaves_each = leaves_from (λ k. true) (Some kind.all) leaves_all
-
--- one pattern of a list met, and those after it still to come
-pub met_more : {P : Type 0} (kind : Kind P) (ps : List P) (i : ℕ) (p : P) → i < length ps → p ≡ get_or ps i p → (m n : Option P) → n ≡ met_with kind m p → met_each kind n (drop (i + 1) ps) ≡ met_each kind m (drop i ps)
-met_more kind ps i p within is m n e =
-    ap (λ o. met_each kind o (drop (i + 1) ps)) (e ∙ ap (met_with kind m) is) ∙ sym (at_drop_more (met_each kind m) ps i p within)

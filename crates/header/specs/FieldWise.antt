@@ -1,7 +1,7 @@
 -- The laws of patterns with a cell for each field, from those of their cells.
 use Rattle.std.specs.Prelude.{◌≡◌, ℕ, Bool, true, false, not, ◌&&◌, ◌||◌, ◌⊎◌, List, [], ◌∷◌, refl}
 use Rattle.std.proofs.Common.{sym, ap, subst, ◌∙◌, inl, inr}
-use Rattle.std.proofs.lemmas.Bool.{and_parts, and_from, both_ways, eq-eqb, or_cases, or_left, or_right, cases_Bool}
+use Rattle.std.proofs.lemmas.Bool.{and_parts, and_from, both_ways, eq-eqb, or_cases, or_left, or_right, cases_Bool, false_from_ne_true}
 use Rattle.packet.proofs.Every.{every_at, every_from, every_fails, number_allowed, lawful_from}
 use Rattle.packet.proofs.Put.{put, put_same, put_exists, put_each}
 use Rattle.packet.proofs.Witness.{packet_of, lawful_number}
@@ -15,11 +15,7 @@ use Rattle.header.specs.Truth.{same_truth, and_true}
 
 -- a test that fails at one field fails of every field
 pub every_not : (P : Field → Bool) (f : Field) → P f ≡ false → every P ≡ false
-every_not P f h = go (every P) refl
-  where
-    go : (b : Bool) → every P ≡ b → b ≡ false
-    go true e = absurd (both_ways (P f) h (every_at P e f))
-    go false e = refl
+every_not P f h = false_from_ne_true (every P) (λ e. both_ways (P f) h (every_at P e f))
 
 module _ {C : Type 0} (cell : Cell C) (laws : CellLaws cell) where
   well_sized : (p : Field → C) → well_made cell p ≡ true → (f : Field) → cell.sized f (p f) ≡ true

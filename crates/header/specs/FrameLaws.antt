@@ -1,5 +1,5 @@
 -- The frame kind keeps the four laws.
-use Rattle.std.specs.Prelude.{◌≡◌, ℕ, ◌-◌, true, Some, Option, ◌==◌, refl}
+use Rattle.std.specs.Prelude.{◌≡◌, ℕ, ◌-◌, true, Option, ◌==◌, refl}
 use Rattle.std.proofs.Common.{sym, arith}
 use Rattle.std.proofs.lemmas.Bool.{and_parts, eqb-true, eq-eqb}
 use Rattle.packet.proofs.Every.{same_row}
@@ -10,7 +10,7 @@ use Rattle.packet.specs.declared.test.Test.{Test}
 use Rattle.header.specs.Exact.{exact_laws}
 use Rattle.header.specs.KindLaws.{Laid, kind_laws}
 use Rattle.header.specs.Truth.{same_truth}
-use Rattle.header.specs.Frames.{frames, frame_kind, at, of_cells, carried}
+use Rattle.header.specs.Frames.{exact, frames, frame_kind, at, of_cells, carried}
 use Rattle.header.specs.Laws.{Laws}
 
 at_of_cells : (c : Field → Option ℕ) → at (of_cells c) ≡ c
@@ -23,10 +23,7 @@ all_bits t h x = let e : width t.field - t.length ≡ 0 = omega (arith, eqb-true
 eqb_sym : (x y : ℕ) → (x == y) ≡ (y == x)
 eqb_sym x y = same_truth _ _ (λ h. eq-eqb y x (sym (eqb-true x y h))) (λ h. eq-eqb x y (sym (eqb-true y x h)))
 
-abbrev own : Test → Option ℕ
-own t = Some t.value
-
-laid : Laid frames own
+pub laid : Laid exact frames
 laid =
     record {
       all_cells = at_of_cells _;
@@ -37,4 +34,4 @@ laid =
     }
 
 pub frame_laws : Laws frame_kind
-frame_laws = kind_laws frames exact_laws own laid
+frame_laws = kind_laws exact frames exact_laws laid

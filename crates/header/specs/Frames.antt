@@ -1,10 +1,9 @@
 -- The frame kind: a pattern states some fields' whole numbers.
-use Rattle.std.specs.Prelude.{ℕ, Bool, true, false, Some, None, Option, ◌==◌}
-use Rattle.packet.specs.Fields.{allowed, each_field, way, width}
+use Rattle.std.specs.Prelude.{ℕ, Bool, true, false, get_or, map, Some, None, Option, ◌==◌}
+use Rattle.packet.specs.Fields.{allowed, place, way, width}
 use Rattle.packet.specs.declared.field.Field.{Field}
-use Rattle.packet.specs.declared.field.Field.TheVariants.{DlSrc, DlDst, DlTyp, NwSrc, NwDst, NwProto, TpSrc, TpDst}
 use Rattle.packet.specs.declared.test.Test.{Test}
-use Rattle.header.specs.Cells.{Cell, both_all, test_cells}
+use Rattle.header.specs.Cells.{Cell, both_all, fields, test_cells}
 use Rattle.header.specs.Laws.{Kind}
 use Rattle.header.specs.Layouts.{Layout, kind_of}
 use Rattle.header.specs.declared.frame.FramePattern.{FramePattern}
@@ -54,36 +53,29 @@ exact =
 
 -- a pattern by what it states of each field, and back
 abbrev pub at : FramePattern → Field → Option ℕ
-at p = each_field p.dlsrc p.dldst p.dltyp p.nwsrc p.nwdst p.nwproto p.tpsrc p.tpdst
+at p f = get_or p.cells (place f) None
 
 abbrev pub of_cells : (Field → Option ℕ) → FramePattern
-of_cells c =
-    record {
-      dlsrc = c DlSrc;
-      dldst = c DlDst;
-      dltyp = c DlTyp;
-      nwsrc = c NwSrc;
-      nwdst = c NwDst;
-      nwproto = c NwProto;
-      tpsrc = c TpSrc;
-      tpdst = c TpDst;
-    }
+of_cells c = record { cells = map c fields }
 
 -- tests of full length are carried
 abbrev pub carried : Test → Bool
 carried t = t.length == width t.field
 
+abbrev pub own : Test → Option ℕ
+own t = Some t.value
+
 -- the pattern of a test states its value, and what its field needs to exist; the join states what either does
 abbrev pub frames : Layout FramePattern (Option ℕ)
 frames =
     record {
-      cell = exact;
       at = at;
       all = of_cells (λ f. None);
       join = λ p q. of_cells (both_all exact (at p) (at q));
       carried = carried;
-      pattern = λ t. of_cells (test_cells exact (way t.field) t.field (Some t.value));
+      own = own;
+      pattern = λ t. of_cells (test_cells exact (way t.field) t.field (own t));
     }
 
 abbrev pub frame_kind : Kind FramePattern
-frame_kind = kind_of frames
+frame_kind = kind_of exact frames

@@ -27,20 +27,17 @@ got_none : {A : Type 0} (b : Bool) (x : A) → cond b (Some x) None ≡ None →
 got_none true x e = let z : ◌≡◌ {A = ℕ} 0 1 = cc in absurd (omega arith)
 got_none false x e = refl
 
--- what a layout owes beside the laws of its cells, where `own` is the cell of a test
-pub record Laid {P C : Type 0} (layout : Layout P C) (own : Test → C) : Type 0 where
-  pub all_cells : layout.at layout.all ≡ (λ f. layout.cell.blank)
-  pub join_cells : (p q : P) → layout.at (layout.join p q) ≡ both_all layout.cell (layout.at p) (layout.at q)
-  pub pattern_cells : (t : Test) → layout.carried t ≡ true → layout.at (layout.pattern t) ≡ test_cells layout.cell (way t.field) t.field (own t)
-  pub own_sized : (t : Test) → layout.carried t ≡ true → layout.cell.sized t.field (own t) ≡ true
-  pub own_takes : (t : Test) → layout.carried t ≡ true → (x : ℕ) → allowed t.field x ≡ true → layout.cell.takes t.field (own t) x ≡ accepts t x
+-- what a layout owes beside the laws of its cells
+pub record Laid {P C : Type 0} (cell : Cell C) (layout : Layout P C) : Type 0 where
+  pub all_cells : layout.at layout.all ≡ (λ f. cell.blank)
+  pub join_cells : (p q : P) → layout.at (layout.join p q) ≡ both_all cell (layout.at p) (layout.at q)
+  pub pattern_cells : (t : Test) → layout.carried t ≡ true → layout.at (layout.pattern t) ≡ test_cells cell (way t.field) t.field (layout.own t)
+  pub own_sized : (t : Test) → layout.carried t ≡ true → cell.sized t.field (layout.own t) ≡ true
+  pub own_takes : (t : Test) → layout.carried t ≡ true → (x : ℕ) → allowed t.field x ≡ true → cell.takes t.field (layout.own t) x ≡ accepts t x
 
-module _ {P C : Type 0} (layout : Layout P C) (cell_laws : CellLaws layout.cell) (own : Test → C) (laid : Laid layout own) where
+module _ {P C : Type 0} (cell : Cell C) (layout : Layout P C) (cell_laws : CellLaws cell) (laid : Laid cell layout) where
   abbrev kind : Kind P
-  kind = kind_of layout
-
-  abbrev cell : Cell C
-  cell = layout.cell
+  kind = kind_of cell layout
 
   abbrev cells : P → Field → C
   cells = layout.at
@@ -57,13 +54,13 @@ module _ {P C : Type 0} (layout : Layout P C) (cell_laws : CellLaws layout.cell)
   all_hit k = subst (λ c. hits_all cell c (number k) ≡ true) (sym laid.all_cells) (every_from _ (λ f. blank_takes cell cell_laws f (number k f) (number_allowed (number k) (lawful_number k) f)))
 
   pattern_made : (t : Test) → kind.carried t ≡ true → kind.made (kind.pattern t) ≡ true
-  pattern_made t h = subst (λ c. well_made cell c ≡ true) (sym (laid.pattern_cells t h)) (test_made cell cell_laws t.field (way t.field) (way_of t.field) (own t) (laid.own_sized t h))
+  pattern_made t h = subst (λ c. well_made cell c ≡ true) (sym (laid.pattern_cells t h)) (test_made cell cell_laws t.field (way t.field) (way_of t.field) (layout.own t) (laid.own_sized t h))
 
   pattern_hit : (t : Test) → kind.carried t ≡ true → (k : Packet) → kind.hit (kind.pattern t) k ≡ true_of t k
   pattern_hit t h k =
       ap (λ c. hits_all cell c (number k)) (laid.pattern_cells t h)
-      ∙ test_hit cell cell_laws t.field (way t.field) (way_of t.field) (own t) (number k) (lawful_number k)
-      ∙ ap (λ b. b && layout.cell.takes t.field (own t) (number k t.field)) (sym (exists_way (number k) t.field))
+      ∙ test_hit cell cell_laws t.field (way t.field) (way_of t.field) (layout.own t) (number k) (lawful_number k)
+      ∙ ap (λ b. b && cell.takes t.field (layout.own t) (number k t.field)) (sym (exists_way (number k) t.field))
       ∙ ap (λ b. exists (number k) t.field && b) (laid.own_takes t h (number k t.field) (number_allowed (number k) (lawful_number k) t.field))
 
   module _ (p q : P) (mp : kind.made p ≡ true) (mq : kind.made q ≡ true) where
@@ -96,7 +93,7 @@ module _ {P C : Type 0} (layout : Layout P C) (cell_laws : CellLaws layout.cell)
           | inr c ↦ (let w = escaped cell cell_laws (cells p) (cells q) mp mq c in absurd (both_ways _ w.2 (h w.0 w.1)))
         ]
 
-  pub kind_laws : Laws (kind_of layout)
+  pub kind_laws : Laws (kind_of cell layout)
   kind_laws =
       record {
         all_made = all_made;

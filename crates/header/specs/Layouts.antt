@@ -8,25 +8,25 @@ use Rattle.header.specs.Laws.{Kind}
 
 -- patterns P with cells C
 pub record Layout (P C : Type 0) : Type 0 where
-  pub cell : Cell C
   -- what a pattern says of each field
   pub at : P → Field → C
   -- the pattern that asks nothing, and the one that asks what either of two does
   pub all : P
   pub join : P → P → P
-  -- the tests that the kind carries, and the pattern of a test
+  -- the tests that the kind carries, the cell of a test in its own field, and the pattern of a test
   pub carried : Test → Bool
+  pub own : Test → C
   pub pattern : Test → P
 
 -- the kind, field by field: hit where each number is taken, met where all cells agree, covered where all cells are
-abbrev pub kind_of : {P C : Type 0} → Layout P C → Kind P
-kind_of layout =
+abbrev pub kind_of : {P C : Type 0} → Cell C → Layout P C → Kind P
+kind_of cell layout =
     record {
-      made = λ p. well_made layout.cell (layout.at p);
+      made = λ p. well_made cell (layout.at p);
       carried = layout.carried;
       pattern = layout.pattern;
       all = layout.all;
-      hit = λ p k. hits_all layout.cell (layout.at p) (number k);
-      meeting = λ p q. cond (agrees_all layout.cell (layout.at p) (layout.at q)) (Some (layout.join p q)) None;
-      covering = λ p q. covers_all layout.cell (layout.at p) (layout.at q);
+      hit = λ p k. hits_all cell (layout.at p) (number k);
+      meeting = λ p q. cond (agrees_all cell (layout.at p) (layout.at q)) (Some (layout.join p q)) None;
+      covering = λ p q. covers_all cell (layout.at p) (layout.at q);
     }

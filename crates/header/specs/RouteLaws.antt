@@ -13,7 +13,7 @@ use Rattle.packet.specs.declared.field.Field.TheVariants.{DlSrc, DlDst, DlTyp, N
 use Rattle.header.specs.KindLaws.{Laid, kind_laws}
 use Rattle.header.specs.Prefixes.{prefix_laws}
 use Rattle.header.specs.TestCells.{blank_takes}
-use Rattle.header.specs.Truth.{and_right_true}
+use Rattle.std.proofs.Math.Bool.{and-true}
 use Rattle.header.specs.Cells.{both_all, test_cells}
 use Rattle.header.specs.Laws.{Laws}
 use Rattle.header.specs.Routes.{routes, route_kind, prefixes, takes, at, of_cells, all, blank, full, longer, routed, own}
@@ -44,7 +44,7 @@ address_kept f c h =
       | inr e ↦ subst (Kept c) (sym (same_true f NwDst e)) (same_row _ (test_cells prefixes (way NwDst) NwDst c) refl refl refl refl refl refl refl refl)
     ]
 
-laid : Laid routes own
+pub laid : Laid prefixes routes
 laid =
     record {
       all_cells = all_cells;
@@ -55,12 +55,12 @@ laid =
     }
 
 pub route_laws : Laws route_kind
-route_laws = kind_laws routes prefix_laws own laid
+route_laws = kind_laws prefixes routes prefix_laws laid
 
 -- nothing is asked of the other fields
 pub hit_parts : (p : RoutePattern) (k : Packet) → route_kind.hit p k ≡ (((not p.network || number k DlTyp == 2048) && takes NwSrc p.nwsrc (number k NwSrc)) && takes NwDst p.nwdst (number k NwDst))
 hit_parts p k =
-    simp (unasked DlSrc, unasked DlDst, unasked NwProto, unasked TpSrc, unasked TpDst, ip p.network, and_right_true)
+    simp (unasked DlSrc, unasked DlDst, unasked NwProto, unasked TpSrc, unasked TpDst, ip p.network, and-true)
   where
     fit : (f : Field) → allowed f (number k f) ≡ true
     fit = number_allowed (number k) (lawful_number k)

@@ -1,6 +1,6 @@
 -- The route kind: a pattern states whether the packet is IP, and a prefix of each network address.
 use Rattle.std.specs.Prelude.{ℕ, min, Bool, cond, ◌&&◌, ◌||◌, ◌==◌, nat_le, nat_lt}
-use Rattle.packet.specs.Fields.{each_field, fits, same, way, width}
+use Rattle.packet.specs.Fields.{fits, same, way, width}
 use Rattle.packet.specs.Tests.{first_bits}
 use Rattle.packet.specs.declared.field.Field.{Field}
 use Rattle.packet.specs.declared.field.Field.TheVariants.{DlTyp, NwSrc, NwDst}
@@ -50,7 +50,10 @@ prefixes =
 
 -- a pattern by what it states of each field, and back
 abbrev pub at : RoutePattern → Field → Prefix
-at p = each_field blank blank (cond p.network (full DlTyp 2048) blank) p.nwsrc p.nwdst blank blank blank
+at p DlTyp = cond p.network (full DlTyp 2048) blank
+at p NwSrc = p.nwsrc
+at p NwDst = p.nwdst
+at p f = blank
 
 abbrev pub of_cells : (Field → Prefix) → RoutePattern
 of_cells c = record { network = stated (c DlTyp); nwsrc = c NwSrc; nwdst = c NwDst }
@@ -69,13 +72,13 @@ own t = record { value = t.value; length = t.length }
 abbrev pub routes : Layout RoutePattern Prefix
 routes =
     record {
-      cell = prefixes;
       at = at;
       all = all;
       join = λ p q. record { network = p.network || q.network; nwsrc = longer p.nwsrc q.nwsrc; nwdst = longer p.nwdst q.nwdst };
       carried = λ t. routed t.field;
+      own = own;
       pattern = λ t. cond (routed t.field) (of_cells (test_cells prefixes (way t.field) t.field (own t))) all;
     }
 
 abbrev pub route_kind : Kind RoutePattern
-route_kind = kind_of routes
+route_kind = kind_of prefixes routes

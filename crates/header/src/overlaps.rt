@@ -1,11 +1,11 @@
 //! How the packets of patterns lie to each other, in any header kind: code that rests on the four laws alone.
 ghost use Rattle.std.specs.Prelude.{◌≡◌, true, Some};
-ghost use Rattle.header.specs.Overlaps.{Lies, case_of, compared, Leaves, hits_each, made_each, met_each, met_with};
+ghost use Rattle.header.specs.Overlaps.{Lies, case_of, compared, Leaves, hits_each, made_each, met_each};
 
 use crate::kind::HeaderKind;
 
 /// How the packets that hit one pattern lie to those that hit another.
-#[derive(Clone, Copy)]
+#[derive(Clone, Copy, PartialEq, Eq, Debug)]
 pub enum Overlap {
     /// No packet hits both.
     Apart,
@@ -46,24 +46,12 @@ pub fn compare<K: HeaderKind>(first: &K, second: &K) -> Overlap
     )
 }
 
-/// What a pattern, or none, leaves when it is met with one more.
-fn narrowed<K: HeaderKind>(met: Option<K>, pattern: &K) -> Option<K>
-    ensures { result ≡ met_with K.HeaderKind.kind met pattern.now }
-{
-    match met {
-        Some(left) => left.meet(pattern),
-        None => None,
-    }
-}
-
 /// The pattern of the packets that hit all of the patterns, or none where there is no such packet.
 pub fn meet_all<K: HeaderKind>(patterns: &[K]) -> Option<K>
     ensures is { result ≡ met_each K.HeaderKind.kind (Some K.HeaderKind.kind.all) patterns.now }
     ensures leaves { made_each K.HeaderKind.kind patterns.now ≡ true → Leaves K.HeaderKind.kind (hits_each K.HeaderKind.kind patterns.now) result }
 {
-    let mut met = Some(K::all());
-    for pattern in patterns {
-        met = narrowed(met, pattern);
-    }
-    met
+    patterns
+        .iter()
+        .try_fold(K::all(), |met, pattern| met.meet(pattern))
 }

@@ -1,20 +1,23 @@
-ghost use Rattle.std.specs.Prelude.{◌≡◌, ◌-◌, ◌/◌, ◌^◌, ◌==◌};
-ghost use Rattle.header.specs.Routes.{takes, agree, longer, route_kind};
-ghost use Rattle.header.specs.Routes.{covers as covers_cell};
-ghost use Rattle.header.specs.RouteLaws.{route_laws};
+ghost use Rattle.std.specs.Prelude.{◌≡◌, ◌==◌};
+ghost use Rattle.packet.specs.Fields.{width};
+ghost use Rattle.packet.specs.Tests.{first_bits};
+ghost use Rattle.header.specs.Routes.{prefixes, routes, own};
+ghost use Rattle.header.specs.Prefixes.{prefix_laws};
+ghost use Rattle.header.specs.RouteLaws.{laid};
 
-use crate::kind::HeaderKind;
-use packet::{Field, IP, Packet, Test};
+use crate::cell::Cell;
+use crate::pattern::CellPattern;
+use packet::{Field, IP, Test};
 
 /// The first bits of a network address: those of `value`, to the length.
-#[derive(Clone, Copy)]
+#[derive(Clone, Copy, PartialEq, Eq, Debug)]
 pub struct Prefix {
     pub value: u32,
     pub length: u8,
 }
 
 /// A pattern of the route kind: whether the packet has to be IP, and how each of its addresses begins.
-#[derive(Clone, Copy)]
+#[derive(Clone, Copy, PartialEq, Eq, Debug)]
 pub struct RoutePattern {
     pub network: bool,
     pub nwsrc: Prefix,
@@ -27,6 +30,12 @@ const ANY: Prefix = Prefix {
     length: 0,
 };
 
+/// The dltyp of IP packets.
+const NETWORK: Prefix = Prefix {
+    value: IP as u32,
+    length: 16,
+};
+
 /// The pattern that states nothing.
 const ALL: RoutePattern = RoutePattern {
     network: false,
@@ -34,107 +43,108 @@ const ALL: RoutePattern = RoutePattern {
     nwdst: ANY,
 };
 
-/// Whether two addresses have the same first bits.
-fn same_bits(a: u64, b: u64, length: u8) -> bool
-    ensures { result ≡ (a / 2 ^ (32 - length) == b / 2 ^ (32 - length)) }
+impl Prefix {
+    /// The prefix that a test of a network address looks for.
+    fn of(test: &Test) -> Prefix
+        requires { width test.now.field ≡ 32 }
+        ensures { result ≡ own test.now }
+    {
+        // An address has 32 bits: the cast loses none.
+        Prefix {
+            value: test.value() as u32,
+            length: test.length(),
+        }
+    }
+}
+
+/// Whether two numbers of a field have the same first bits.
+fn same_bits(field: Field, a: u64, b: u64, length: u8) -> bool
+    ensures { result ≡ (first_bits field length a == first_bits field length b) }
 {
-    let past = 32u8.saturating_sub(length);
+    let past = field.width().saturating_sub(length);
     a >> past == b >> past
 }
 
-/// Whether an address begins with a prefix.
-fn prefix_takes(prefix: Prefix, address: u64) -> bool
-    ensures { result ≡ takes Field.NwSrc prefix address }
-{
-    same_bits(address, u64::from(prefix.value), prefix.length)
-}
+/// The first bits that a number must have, as an address does.
+impl Cell for Prefix {
+    ghost cell = { prefixes };
 
-/// Whether two prefixes have the same bits as far as both go.
-fn prefixes_agree(a: Prefix, b: Prefix) -> bool
-    ensures { result ≡ agree Field.NwSrc a b }
-{
-    same_bits(
-        u64::from(a.value),
-        u64::from(b.value),
-        a.length.min(b.length),
-    )
-}
+    ghost keeps = { prefix_laws };
 
-/// The longer of two prefixes.
-fn longer_prefix(a: Prefix, b: Prefix) -> Prefix
-    ensures { result ≡ longer a b }
-{
-    if a.length < b.length { b } else { a }
-}
+    fn takes(self, field: Field, number: u64) -> bool {
+        same_bits(field, number, u64::from(self.value), self.length)
+    }
 
-/// Whether every address that begins with the second begins with the first.
-fn prefix_covers(a: Prefix, b: Prefix) -> bool
-    ensures { result ≡ covers_cell Field.NwSrc a b }
-{
-    (a.length <= b.length) & prefix_takes(a, u64::from(b.value))
-}
+    fn agrees(self, field: Field, other: Prefix) -> bool {
+        same_bits(
+            field,
+            u64::from(self.value),
+            u64::from(other.value),
+            self.length.min(other.length),
+        )
+    }
 
-/// Tests of any length on the two network addresses.
-impl HeaderKind for RoutePattern {
-    ghost kind = { route_kind };
-
-    ghost keeps = { route_laws };
-
-    fn carries(test: &Test) -> bool {
-        match test.field() {
-            Field::NwSrc | Field::NwDst => true,
-            _ => false,
+    fn both(self, _field: Field, other: Prefix) -> Prefix {
+        if self.length < other.length {
+            other
+        } else {
+            self
         }
     }
 
-    fn of_test(test: &Test) -> RoutePattern {
+    fn covers(self, field: Field, other: Prefix) -> bool {
+        self.length <= other.length && self.takes(field, u64::from(other.value))
+    }
+}
+
+/// Tests of any length on the two network addresses.
+impl CellPattern for RoutePattern {
+    type Cell = Prefix;
+
+    ghost layout = { routes };
+
+    ghost laid = { laid };
+
+    fn carried(test: &Test) -> bool {
+        matches!(test.field(), Field::NwSrc | Field::NwDst)
+    }
+
+    fn pattern(test: &Test) -> RoutePattern {
         let network = RoutePattern {
             network: true,
             ..ALL
         };
         match test.field() {
             Field::NwSrc => RoutePattern {
-                nwsrc: Prefix {
-                    value: test.value() as u32,
-                    length: test.length(),
-                },
+                nwsrc: Prefix::of(test),
                 ..network
             },
             Field::NwDst => RoutePattern {
-                nwdst: Prefix {
-                    value: test.value() as u32,
-                    length: test.length(),
-                },
+                nwdst: Prefix::of(test),
                 ..network
             },
             _ => ALL,
         }
     }
 
-    fn all() -> RoutePattern {
+    fn blank() -> RoutePattern {
         ALL
     }
 
-    fn hits(&self, packet: &Packet) -> bool {
-        (!self.network | (packet.number(Field::DlTyp) == IP))
-            & prefix_takes(self.nwsrc, packet.number(Field::NwSrc))
-            & prefix_takes(self.nwdst, packet.number(Field::NwDst))
-    }
-
-    fn meet(&self, other: &RoutePattern) -> Option<RoutePattern> {
-        if !(prefixes_agree(self.nwsrc, other.nwsrc) & prefixes_agree(self.nwdst, other.nwdst)) {
-            return None;
+    fn at(&self, field: Field) -> Prefix {
+        match field {
+            Field::DlTyp if self.network => NETWORK,
+            Field::NwSrc => self.nwsrc,
+            Field::NwDst => self.nwdst,
+            _ => ANY,
         }
-        Some(RoutePattern {
-            network: self.network | other.network,
-            nwsrc: longer_prefix(self.nwsrc, other.nwsrc),
-            nwdst: longer_prefix(self.nwdst, other.nwdst),
-        })
     }
 
-    fn covers(&self, other: &RoutePattern) -> bool {
-        (!self.network | other.network)
-            & prefix_covers(self.nwsrc, other.nwsrc)
-            & prefix_covers(self.nwdst, other.nwdst)
+    fn join(&self, other: &RoutePattern) -> RoutePattern {
+        RoutePattern {
+            network: self.network | other.network,
+            nwsrc: self.nwsrc.both(Field::NwSrc, other.nwsrc),
+            nwdst: self.nwdst.both(Field::NwDst, other.nwdst),
+        }
     }
 }

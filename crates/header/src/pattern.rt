@@ -1,0 +1,94 @@
+ghost use Rattle.std.specs.Prelude.{◌≡◌};
+ghost use Rattle.header.specs.Cells.{agrees_all};
+ghost use Rattle.header.specs.Layouts.{Layout, kind_of};
+ghost use Rattle.header.specs.KindLaws.{Laid, kind_laws};
+
+use crate::cell::Cell;
+use crate::kind::HeaderKind;
+use packet::{Field, Packet, Test};
+
+/// The fields, in their order.
+pub const FIELDS: [Field; 8] = [
+    Field::DlSrc,
+    Field::DlDst,
+    Field::DlTyp,
+    Field::NwSrc,
+    Field::NwDst,
+    Field::NwProto,
+    Field::TpSrc,
+    Field::TpDst,
+];
+
+/// A pattern with a cell for each field.
+pub trait CellPattern: Copy {
+    /// What a pattern says of one field.
+    type Cell: Cell;
+
+    /// How patterns, and the tests that have one, look as cells.
+    ghost layout: { Layout Self Self.Cell };
+
+    /// Whether a test has a pattern.
+    fn carried(test: &Test) -> bool
+        ensures { result ≡ layout.carried test.now };
+
+    /// The pattern of a test.
+    fn pattern(test: &Test) -> Self
+        ensures { result ≡ layout.pattern test.now };
+
+    /// The pattern that asks nothing.
+    fn blank() -> Self
+        ensures { result ≡ layout.all };
+
+    /// What the pattern says of a field.
+    fn at(&self, field: Field) -> Self::Cell
+        ensures { result ≡ layout.at self.now field };
+
+    /// The pattern that asks what either does.
+    fn join(&self, other: &Self) -> Self
+        ensures { result ≡ layout.join self.now other.now };
+
+    /// What each kind of such patterns proves.
+    ghost laid: { Laid Self.Cell.cell layout };
+}
+
+/// Whether the cells of each field agree.
+fn agrees<P: CellPattern>(first: &P, second: &P) -> bool
+    ensures { result ≡ agrees_all P.Cell.cell (P.layout.at first.now) (P.layout.at second.now) }
+{
+    FIELDS
+        .iter()
+        .all(|field| first.at(*field).agrees(*field, second.at(*field)))
+}
+
+/// Field by field: hit where each number is taken, met where all cells agree, covered where all cells are.
+impl<P: CellPattern> HeaderKind for P {
+    ghost kind = { kind_of P.Cell.cell P.layout };
+
+    ghost keeps = { kind_laws P.Cell.cell P.layout P.Cell.keeps P.laid };
+
+    fn carries(test: &Test) -> bool {
+        P::carried(test)
+    }
+
+    fn of_test(test: &Test) -> P {
+        P::pattern(test)
+    }
+
+    fn all() -> P {
+        P::blank()
+    }
+
+    fn hits(&self, packet: &Packet) -> bool {
+        FIELDS.iter().all(|field| self.at(*field).takes(*field, packet.number(*field)))
+    }
+
+    fn meet(&self, other: &P) -> Option<P> {
+        agrees(self, other).then(|| self.join(other))
+    }
+
+    fn covers(&self, other: &P) -> bool {
+        FIELDS
+            .iter()
+            .all(|field| self.at(*field).covers(*field, other.at(*field)))
+    }
+}
