@@ -4,3 +4,4 @@ pub mod Listing
 pub mod Typing
 pub mod Placing
 pub mod Signs
+pub mod Refusing

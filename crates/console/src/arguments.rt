@@ -1,4 +1,4 @@
-ghost use Rattle.std.specs.Prelude.{◌≡◌, IsErrAnd, Some, None, string_bytes, codes, MatchResult};
+ghost use Rattle.std.specs.Prelude.{◌≡◌, Some, None, string_bytes, codes, MatchResult};
 ghost use Rattle.console.specs.Commands.{Asks, AsksNone, Because, Complete, Follows, Lacks, NoOption, Stuck, Takes, TakesAny, asked, names_of, nothing};
 ghost use Rattle.text.specs.Values.{numeral};
 
@@ -87,7 +87,9 @@ impl Options {
             "--packet" => self.due = Due::Packet,
             text => {
                 if text.starts_with("--") {
-                    return no_option(heap, word);
+                    return Err(told(format!(in heap;
+                        "yarnbrick: no option '{word}'; 'yarnbrick help' lists them"
+                    )));
                 }
                 self.files.push(word)?;
             }
@@ -100,12 +102,16 @@ impl Options {
         ensures { MatchResult result (λ _. Complete (asked self.now)) (Because (Complete (asked self.now) → ⊥)) }
     {
         match self.due {
-            Due::Switch => return told(format!(in heap; "yarnbrick: --switch wants a number")),
-            Due::Packet => return told(format!(in heap; "yarnbrick: --packet wants words FIELD=V")),
+            Due::Switch => {
+                return Err(told(format!(in heap; "yarnbrick: --switch wants a number")));
+            }
+            Due::Packet => {
+                return Err(told(format!(in heap; "yarnbrick: --packet wants words FIELD=V")));
+            }
             Due::Any | Due::File => {}
         }
         if self.files.is_empty() {
-            return told(format!(in heap; "yarnbrick: {command} wants a policy file"));
+            return Err(told(format!(in heap; "yarnbrick: {command} wants a policy file")));
         }
         Ok(())
     }
@@ -115,13 +121,13 @@ impl Options {
     {
         self.finish(heap, "check")?;
         let Options {
-            due: _,
             switch,
             packet,
             files,
+            ..
         } = self;
         if switch.is_some() || packet.is_some() {
-            return told(format!(in heap; "yarnbrick: check takes files only"));
+            return Err(told(format!(in heap; "yarnbrick: check takes files only")));
         }
         Ok(Command::Check { files })
     }
@@ -131,36 +137,31 @@ impl Options {
     {
         self.finish(heap, "ports")?;
         let Options {
-            due: _,
             switch,
             packet,
             files,
+            ..
         } = self;
-        match packet {
-            Some(packet) => Ok(Command::Ports {
-                switch: switch.unwrap_or(1),
-                packet,
-                files,
-            }),
-            None => told(format!(in heap; "yarnbrick: ports wants --packet \"FIELD=V ..\"")),
-        }
+        let Some(packet) = packet else {
+            return Err(told(format!(in heap;
+                "yarnbrick: ports wants --packet \"FIELD=V ..\""
+            )));
+        };
+        Ok(Command::Ports {
+            switch: switch.unwrap_or(1),
+            packet,
+            files,
+        })
     }
-}
-
-fn no_option(heap: Global, word: String) -> Result<(), Failure>
-    ensures { IsErrAnd result (Because (Unit {0})) }
-{
-    told(format!(in heap; "yarnbrick: no option '{word}'; 'yarnbrick help' lists them"))
 }
 
 /// A switch number, 0 to 65535.
 fn switch_of(heap: Global, word: &str) -> Result<u16, Failure>
     ensures { MatchResult result (λ n. numeral 65535 word.now ≡ Some n) (Because (numeral 65535 word.now ≡ None)) }
 {
-    match number_of(word.as_bytes(), 65535) {
-        Some(number) => Ok(number),
-        None => told(format!(in heap; "yarnbrick: a switch number is 0 to 65535, not '{word}'")),
-    }
+    number_of(word.as_bytes(), 65535).ok_or_else(|| {
+        told(format!(in heap; "yarnbrick: a switch number is 0 to 65535, not '{word}'"))
+    })
 }
 
 /// The command of that name, with the words after it.
@@ -175,6 +176,8 @@ pub fn command_of(heap: Global, name: &str, words: Vec<String>) -> Result<Comman
         "check" => options.check(heap),
         "ports" => options.ports(heap),
         "help" => Ok(Command::Help),
-        _ => told(format!(in heap; "yarnbrick: no command '{name}'; 'yarnbrick help' lists them")),
+        _ => Err(told(format!(in heap;
+            "yarnbrick: no command '{name}'; 'yarnbrick help' lists them"
+        ))),
     }
 }

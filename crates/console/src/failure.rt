@@ -1,4 +1,4 @@
-ghost use Rattle.std.specs.Prelude.{◌≡◌, Err, MatchResult};
+ghost use Rattle.std.specs.Prelude.{◌≡◌, MatchResult};
 ghost use Rattle.console.specs.declared.failure.Failure.TheVariants.{Memory, System, Told};
 
 use std::alloc::{AllocError, AllocFailed};
@@ -50,11 +50,8 @@ impl fmt::Display for Failure {
 }
 
 /// The failure that a line tells.
-pub fn told<T>(line: Result<String, AllocError>) -> Result<T, Failure>
-    ensures { MatchResult line (λ s. result ≡ Err (Told s)) (λ _. result ≡ Err Memory) }
+pub fn told(line: Result<String, AllocError>) -> Failure
+    ensures { MatchResult line (λ s. result ≡ Told s) (λ _. result ≡ Memory) }
 {
-    match line {
-        Ok(line) => Err(Failure::Told(line)),
-        Err(_) => Err(Failure::Memory),
-    }
+    line.map_or_else(|_| Failure::Memory, |line| Failure::Told(line))
 }

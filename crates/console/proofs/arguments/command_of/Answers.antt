@@ -1,7 +1,7 @@
 -- Each turn takes one word, and the command follows from what they ask.
 use Rattle.std.proofs.Common.{codes, inl, inr}
 use Rattle.std.proofs.lemmas.Result.{MatchResult-weaker, err_from_is_err_and}
-use Rattle.console.specs.Commands.{Asks, AsksNone, Because, asked, names_of}
+use Rattle.console.specs.Commands.{AsksNone, Because, asked, names_of}
 use Rattle.console.specs.declared.failure.Failure.TheVariants.{Told}
 use Rattle.console.proofs.Asking.{one_word_more, all_taken, asks_so, because, lacks_so, no_other, stops_here, stops_later}
 use Rattle.console.proofs.Failing.{told_case}
@@ -45,7 +45,7 @@ returns-in_default c =
     let a = asked c.loop-word.options in
     let all = all_taken a (asked c.new-options.result) c.loop-word.word-iterator c.loop-word.invariant.0 c.new-options.ensures c.into_iter-word-iterator.ensures.into_iter_gives.0 c.in-None.ensures.steps.0 in
     let none = inr (a, all, no_other name a c.in_default.not-help c.in_default.not-check c.in_default.not-ports) in
-    told_case Told (Asks name words) (Because (AsksNone name words)) c.format.result c.told.result (λ line. none) tt c.told.ensures
+    told_case Told (Because (AsksNone name words)) c.format.result c.told.result (λ line. none) tt c.told.ensures
 
 pub returns-in_err-add : goal.returns-in_err-add
 returns-in_err-add c =
