@@ -1,5 +1,5 @@
 ghost use Rattle.std.specs.Prelude.{◌≡◌, Some, None, string_bytes, codes, MatchResult};
-ghost use Rattle.console.specs.Commands.{Asks, AsksNone, Because, Complete, Follows, Lacks, NoOption, Stuck, Takes, TakesAny, asked, names_of, nothing};
+ghost use Rattle.console.specs.Commands.{Asks, AsksNone, Because, Complete, Follows, Lacks, NoOption, Stops, Stuck, Takes, TakesAll, TakesAny, asked, names_of, nothing};
 ghost use Rattle.text.specs.Values.{numeral};
 
 use crate::failure::{Failure, told};
@@ -54,6 +54,17 @@ impl Options {
             packet: None,
             files: Vec::new(heap),
         }
+    }
+
+    /// All words, one after another.
+    fn of(heap: Global, words: Vec<String>) -> Result<Options, Failure>
+        ensures { MatchResult result (λ o. TakesAll nothing (names_of words) (asked o)) (Because (Stops nothing (names_of words))) }
+    {
+        let mut options = Options::new(heap);
+        for word in words {
+            options.add(heap, word)?;
+        }
+        Ok(options)
     }
 
     fn add(&mut self, heap: Global, word: String) -> Result<(), Failure>
@@ -168,10 +179,7 @@ fn switch_of(heap: Global, word: &str) -> Result<u16, Failure>
 pub fn command_of(heap: Global, name: &str, words: Vec<String>) -> Result<Command, Failure>
     ensures { MatchResult result (Asks name.now (names_of words)) (Because (AsksNone name.now (names_of words))) }
 {
-    let mut options = Options::new(heap);
-    for word in words {
-        options.add(heap, word)?;
-    }
+    let options = Options::of(heap, words)?;
     match name {
         "check" => options.check(heap),
         "ports" => options.ports(heap),

@@ -2,16 +2,20 @@ ghost use Rattle.std.specs.Prelude.{◌≡◌, MatchResult};
 ghost use Rattle.console.specs.declared.failure.Failure.TheVariants.{Memory, System, Told};
 
 use std::alloc::{AllocError, AllocFailed};
-use std::{fmt, io};
+use std::io;
+use thiserror::Error;
 
 /// What ends a command without its answer.
-#[derive(Drop)]
+#[derive(Debug, Drop, Error)]
 pub enum Failure {
     /// Something typed, a file, or a refusal by the rules, told in one line.
+    #[error("{0}")]
     Told(String),
     /// The system's own error.
+    #[error("yarnbrick: {0}")]
     System(io::Error),
     /// Want of memory.
+    #[error("yarnbrick: out of memory")]
     Memory,
 }
 
@@ -39,19 +43,9 @@ impl From<io::Error> for Failure {
     }
 }
 
-impl fmt::Display for Failure {
-    fn fmt<W: fmt::Write>(&self, f: &mut fmt::Formatter<W>) -> fmt::Result {
-        match self {
-            Failure::Told(line) => write!(f, "{line}"),
-            Failure::System(error) => write!(f, "yarnbrick: {error}"),
-            Failure::Memory => write!(f, "yarnbrick: out of memory"),
-        }
-    }
-}
-
 /// The failure that a line tells.
 pub fn told(line: Result<String, AllocError>) -> Failure
     ensures { MatchResult line (λ s. result ≡ Told s) (λ _. result ≡ Memory) }
 {
-    line.map_or_else(|_| Failure::Memory, |line| Failure::Told(line))
+    line.map_or_else(Failure::from, Failure::Told)
 }
