@@ -68,8 +68,8 @@ fn list_of(heap: Global, counts: &[u16]) -> Result<String, AllocError>
     ensures { IfOk result (λ list. string_bytes list ≡ listed 1 counts.now) }
 {
     let mut list = String::new(heap);
-    for (i, count) in counts.iter().enumerate() {
-        let copies = copies_of(heap, i + 1, *count)?;
+    for (count, port) in counts.iter().zip(1..) {
+        let copies = copies_of(heap, port, *count)?;
         list.push_str(copies.as_str())?;
     }
     Ok(list)

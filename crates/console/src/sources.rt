@@ -1,4 +1,4 @@
-ghost use Rattle.std.specs.Prelude.{◌≡◌, [], ◌++◌, IfOk, string_bytes, OnOk};
+ghost use Rattle.std.specs.Prelude.{◌≡◌, [], ◌∷◌, ◌++◌, length, vec_items, IfOk, string_bytes, OnOk};
 ghost use Rattle.packet.specs.Telling.{told};
 ghost use Rattle.console.specs.Texts.{LastBegun, Tells, beside, ended, ends_line, file_name, in_file, line_ends, starts_of, text_of};
 
@@ -24,7 +24,8 @@ pub struct Sources {
 impl Sources {
     /// No files.
     pub fn new(heap: Global) -> Sources
-        ensures { text_of result ≡ [] }
+        ensures text { text_of result ≡ [] }
+        ensures files { vec_items result.files ≡ [] }
     {
         Sources {
             files: Vec::new(heap),
@@ -34,7 +35,8 @@ impl Sources {
 
     /// One file more; where its last line has no end, it gets one.
     pub fn add(&mut self, name: String, content: &[u8]) -> Result<(), Failure>
-        ensures { OnOk result (text_of self.new ≡ text_of self.old ++ ended content.now) }
+        ensures text { OnOk result (text_of self.new ≡ text_of self.old ++ ended content.now) }
+        ensures file { OnOk result (vec_items self.new.files ≡ vec_items self.old.files ++ record { name = name; start = length (text_of self.old) } ∷ []) }
     {
         let start = self.text.len();
         self.files.push(File { name, start })?;
