@@ -57,7 +57,7 @@ impl Options {
     }
 
     /// All words, one after another.
-    fn of(heap: Global, words: Vec<String>) -> Result<Options, Failure>
+    fn from_words(heap: Global, words: Vec<String>) -> Result<Options, Failure>
         ensures { MatchResult result (λ o. TakesAll nothing (names_of words) (asked o)) (Because (Stops nothing (names_of words))) }
     {
         let mut options = Options::new(heap);
@@ -96,14 +96,12 @@ impl Options {
             "--" => self.due = Due::File,
             "--switch" => self.due = Due::Switch,
             "--packet" => self.due = Due::Packet,
-            text => {
-                if text.starts_with("--") {
-                    return Err(told(format!(in heap;
-                        "yarnbrick: no option '{word}'; 'yarnbrick help' lists them"
-                    )));
-                }
-                self.files.push(word)?;
+            text if text.starts_with("--") => {
+                return Err(told(format!(in heap;
+                    "yarnbrick: no option '{word}'; 'yarnbrick help' lists them"
+                )));
             }
+            _ => self.files.push(word)?,
         }
         Ok(())
     }
@@ -131,37 +129,25 @@ impl Options {
         ensures { MatchResult result (Follows (codes "check") (asked self)) (Because (Lacks (codes "check") (asked self))) }
     {
         self.finish(heap, "check")?;
-        let Options {
-            switch,
-            packet,
-            files,
-            ..
-        } = self;
-        if switch.is_some() || packet.is_some() {
+        if self.switch.is_some() || self.packet.is_some() {
             return Err(told(format!(in heap; "yarnbrick: check takes files only")));
         }
-        Ok(Command::Check { files })
+        Ok(Command::Check { files: self.files })
     }
 
     fn ports(self, heap: Global) -> Result<Command, Failure>
         ensures { MatchResult result (Follows (codes "ports") (asked self)) (Because (Lacks (codes "ports") (asked self))) }
     {
         self.finish(heap, "ports")?;
-        let Options {
-            switch,
-            packet,
-            files,
-            ..
-        } = self;
-        let Some(packet) = packet else {
+        let Some(packet) = self.packet else {
             return Err(told(format!(in heap;
                 "yarnbrick: ports wants --packet \"FIELD=V ..\""
             )));
         };
         Ok(Command::Ports {
-            switch: switch.unwrap_or(1),
+            switch: self.switch.unwrap_or(1),
             packet,
-            files,
+            files: self.files,
         })
     }
 }
@@ -179,7 +165,7 @@ fn switch_of(heap: Global, word: &str) -> Result<u16, Failure>
 pub fn command_of(heap: Global, name: &str, words: Vec<String>) -> Result<Command, Failure>
     ensures { MatchResult result (Asks name.now (names_of words)) (Because (AsksNone name.now (names_of words))) }
 {
-    let options = Options::of(heap, words)?;
+    let options = Options::from_words(heap, words)?;
     match name {
         "check" => options.check(heap),
         "ports" => options.ports(heap),
