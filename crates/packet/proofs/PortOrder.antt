@@ -1,6 +1,5 @@
 -- One port more keeps a list of ports rising, and raises its own count alone.
-use Rattle.std.proofs.Common.{◌≡◌, ℕ, zero, suc, ◌+◌, ◌<◌, ◌≤◌, min, max, true, leb, List, [], ◌∷◌, ◌++◌, length, get_or, drop, sym, refl, ap, ◌∙◌, append_assoc, arith}
-use Rattle.std.proofs.lemmas.List.{drop_more, drop_all}
+use Rattle.std.proofs.Common.{◌≡◌, ℕ, zero, suc, ◌+◌, ◌<◌, ◌≤◌, min, max, true, leb, List, [], ◌∷◌, length, get_or, refl, ap, ◌∙◌, arith}
 use Rattle.std.proofs.lemmas.Bool.{and_from, and_parts, le-leb, leb-true}
 use Rattle.std.proofs.lemmas.Bool.Decides.{nat_tests}
 use Rattle.packet.specs.PortLists.{placed, times, rising_within}
@@ -41,11 +40,3 @@ each_within low high (x ∷ xs) f (suc i) h =
     let r = rose low high x xs f in
     let later = each_within x high xs r.2 i (omega arith) in
     (omega arith, later.1)
-
--- the ports up to a place are done, and the highest so far is still to be put among the rest
-pub placed_more : (port high : ℕ) (old grown : List ℕ) (i : ℕ) → i < length old → grown ++ placed high (drop i old) ≡ placed port old → (grown ++ min (get_or old i 0) high ∷ []) ++ placed (max (get_or old i 0) high) (drop (i + 1) old) ≡ placed port old
-placed_more port high old grown i h sofar =
-    append_assoc grown (min (get_or old i 0) high ∷ []) _ ∙ ap (λ l. grown ++ placed high l) (sym (drop_more old i 0 h)) ∙ sofar
-
-pub placed_all : (port high : ℕ) (old grown : List ℕ) (i : ℕ) → length old ≤ i → grown ++ placed high (drop i old) ≡ placed port old → grown ++ high ∷ [] ≡ placed port old
-placed_all port high old grown i h sofar = ap (λ l. grown ++ placed high l) (sym (drop_all i old h)) ∙ sofar

@@ -1,5 +1,7 @@
 -- Ports as lists of numbers: which lists are ports, one port more, and how often a port stands in a list.
-use Rattle.std.specs.Prelude.{◌≡◌, ℕ, ◌+◌, min, max, Bool, true, false, cond, ◌&&◌, List, [], ◌∷◌, length, ◌==◌, nat_le, nat_lt}
+use Rattle.std.specs.Prelude.{◌≡◌, ℕ, ◌+◌, min, max, Bool, true, false, cond, ◌&&◌, List, [], ◌∷◌, length, Ok, Err, Result, ◌==◌, nat_le, nat_lt}
+use Rattle.packet.specs.declared.ports.PortError.{PortError}
+use Rattle.packet.specs.declared.ports.PortError.TheVariants.{NoPort, Full}
 
 -- a switch has the ports 1 to 48
 abbrev pub is_port : ℕ → Bool
@@ -24,7 +26,8 @@ abbrev pub placed : ℕ → List ℕ → List ℕ
 placed x [] = x ∷ []
 placed x (y ∷ ys) = min y x ∷ placed (max y x) ys
 
--- a port is added to fewer than eight, at its place; any other number, and a ninth port, changes nothing
-abbrev pub Added : List ℕ → ℕ → Bool → List ℕ → Type 0
-Added old n true new = ((is_port n && nat_lt (length old) 8) ≡ true) × (new ≡ placed n old)
-Added old n false new = ((is_port n && nat_lt (length old) 8) ≡ false) × (new ≡ old)
+-- a port is added to fewer than eight, at its place; any other number, and a ninth port, is refused and changes nothing
+abbrev pub Added : {U : Type 0} → List ℕ → ℕ → Result U PortError → List ℕ → Type 0
+Added old n (Ok u) new = ((is_port n && nat_lt (length old) 8) ≡ true) × (new ≡ placed n old)
+Added old n (Err NoPort) new = (is_port n ≡ false) × (new ≡ old)
+Added old n (Err Full) new = (is_port n ≡ true) × (length old ≡ 8) × (new ≡ old)

@@ -11,6 +11,7 @@ use Rattle.packet.specs.declared.fault.HostCause.{HostCause}
 use Rattle.packet.specs.declared.fault.HostCause.TheVariants.{Numbers}
 use Rattle.packet.specs.declared.fault.ReaderCause.{ReaderCause}
 use Rattle.packet.specs.declared.fault.ReaderCause.TheVariants.{Byte, Head, Word, Value, Depth, Nodes}
+use Rattle.packet.specs.declared.fault.TextPlace.{TextPlace}
 use Rattle.packet.specs.declared.fault.SwitchCause.{SwitchCause}
 use Rattle.packet.specs.declared.fault.SwitchCause.TheVariants.{Shut, Broken, Waiting, Full}
 
@@ -21,6 +22,10 @@ name_of Put = codes "put"
 name_of Fence = codes "fence"
 name_of Out = codes "out"
 name_of Step = codes "step"
+
+-- a place in a text
+abbrev pub told_place : TextPlace → List ℕ
+told_place p = codes "line " ++ (decimal p.line ++ (codes ", byte " ++ decimal p.byte))
 
 -- what a refusal means
 abbrev pub reader_meaning : ReaderCause → List ℕ
@@ -54,7 +59,7 @@ meaning_of (Switch cause call) = switch_meaning cause
 
 -- refused NUMBER by the LAYER at PLACE: what it means
 abbrev pub told : Fault → List ℕ
-told (Reader cause place) = codes "refused " ++ (decimal (reader_number cause) ++ (codes " by the reader at line " ++ (decimal place.line ++ (codes ", byte " ++ (decimal place.byte ++ (codes ": " ++ reader_meaning cause))))))
+told (Reader cause place) = codes "refused " ++ (decimal (reader_number cause) ++ (codes " by the reader at " ++ (told_place place ++ (codes ": " ++ reader_meaning cause))))
 told (Builder cause node) = codes "refused " ++ (decimal (builder_number cause) ++ (codes " by the builder at node " ++ (decimal node ++ (codes ": " ++ builder_meaning cause))))
 told (Host cause call) = codes "refused " ++ (decimal (host_number cause) ++ (codes " by the host at " ++ (name_of call ++ (codes ": " ++ host_meaning cause))))
 told (Switch cause call) = codes "refused " ++ (decimal (switch_number cause) ++ (codes " by the switch at " ++ (name_of call ++ (codes ": " ++ switch_meaning cause))))

@@ -4,7 +4,12 @@ use std::alloc::AllocError;
 
 mod list;
 
-/// A list of at most `N` items, kept in an array: nothing is allocated.
+/// A list has no room for one item more.
+#[derive(Clone, Copy, PartialEq, Eq, Debug)]
+pub struct Full;
+
+/// A list of at most `N` items, kept in an array: nothing is allocated, which the library promises, so it is no `Vec`.
+#[derive(Copy)]
 pub struct Bounded<T, const N: usize> {
     items: [T; N],
     len: usize,
@@ -12,6 +17,7 @@ pub struct Bounded<T, const N: usize> {
     ghost fits: { len ≤ N },
 }
 
+// By hand, since `Clone` is derived for no generic struct with a ghost field.
 impl<T: Copy, const N: usize> Clone for Bounded<T, N> {
     ghost is_clone = { λ x y. y ≡ x };
 
@@ -21,5 +27,3 @@ impl<T: Copy, const N: usize> Clone for Bounded<T, N> {
         Ok(*self)
     }
 }
-
-impl<T: Copy, const N: usize> Copy for Bounded<T, N> {}

@@ -2,14 +2,14 @@
 mod calls;
 
 /// A place in a text: a line from 1, and a byte of the whole text from 0.
-#[derive(Clone, Copy)]
+#[derive(Clone, Copy, PartialEq, Eq, Debug)]
 pub struct TextPlace {
     pub line: usize,
     pub byte: usize,
 }
 
 /// The calls that a fault of the host or of the switch names.
-#[derive(Clone, Copy)]
+#[derive(Clone, Copy, PartialEq, Eq, Debug)]
 pub enum Call {
     /// Making a packet of eight numbers.
     Packet,
@@ -23,11 +23,11 @@ pub enum Call {
     Step,
 }
 
-/// Why the reader refuses a text.
-#[derive(Clone, Copy)]
+/// Why the reader refuses a text; each cause has its number.
+#[derive(Clone, Copy, PartialEq, Eq, Debug)]
 pub enum ReaderCause {
     /// A byte that stands in no policy text.
-    Byte,
+    Byte = 1,
     /// A head word that cannot stand there.
     Head,
     /// Any other wrong, missing or extra word or bracket.
@@ -40,11 +40,11 @@ pub enum ReaderCause {
     Nodes,
 }
 
-/// Why the builder refuses a policy.
-#[derive(Clone, Copy)]
+/// Why the builder refuses a policy, likewise.
+#[derive(Clone, Copy, PartialEq, Eq, Debug)]
 pub enum BuilderCause {
     /// A test that the header kind does not carry.
-    NotCarried,
+    NotCarried = 7,
     /// A row with more than 8 copies.
     Copies,
     /// More rows than a table or the switch can hold.
@@ -53,18 +53,18 @@ pub enum BuilderCause {
     WorkRows,
 }
 
-/// Why a call of the host is refused.
-#[derive(Clone, Copy)]
+/// Why a call of the host is refused, likewise.
+#[derive(Clone, Copy, PartialEq, Eq, Debug)]
 pub enum HostCause {
     /// Eight numbers that break a packet's rules.
-    Numbers,
+    Numbers = 11,
 }
 
-/// Why the switch refuses.
-#[derive(Clone, Copy)]
+/// Why the switch refuses, likewise.
+#[derive(Clone, Copy, PartialEq, Eq, Debug)]
 pub enum SwitchCause {
     /// The link is shut.
-    Shut,
+    Shut = 12,
     /// The link broke in this call.
     Broken,
     /// 16 messages wait already.
@@ -74,7 +74,7 @@ pub enum SwitchCause {
 }
 
 /// A refusal: the layer that refuses, why, and where.
-#[derive(Clone, Copy)]
+#[derive(Clone, Copy, PartialEq, Eq, Debug)]
 pub enum Fault {
     Reader {
         cause: ReaderCause,

@@ -8,9 +8,9 @@ mod packet;
 mod ports;
 mod test;
 
-pub use bounded::Bounded;
+pub use bounded::{Bounded, Full};
 pub use fault::{BuilderCause, Call, Fault, HostCause, ReaderCause, SwitchCause, TextPlace};
 pub use field::{Field, IP, TCP};
 pub use packet::Packet;
-pub use ports::Ports;
+pub use ports::{PortError, Ports};
 pub use test::Test;

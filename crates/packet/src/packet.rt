@@ -4,7 +4,7 @@ ghost use Rattle.packet.specs.Fields.{lawful, row};
 mod calls;
 
 /// A packet: eight numbers, each within its width, and 0 where the packet has no such number.
-#[derive(Clone, Copy)]
+#[derive(Clone, Copy, PartialEq, Eq, Debug)]
 pub struct Packet {
     dlsrc: u64,
     dldst: u64,

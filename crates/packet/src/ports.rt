@@ -6,6 +6,15 @@ use crate::bounded::Bounded;
 
 mod list;
 
+/// Why a port is not added.
+#[derive(Clone, Copy, PartialEq, Eq, Debug)]
+pub enum PortError {
+    /// The number is not 1 to 48.
+    NoPort,
+    /// Eight ports are there.
+    Full,
+}
+
 /// At most eight ports, 1 to 48, in rising order; a port that stands there twice gets two copies.
 #[derive(Clone, Copy)]
 pub struct Ports {

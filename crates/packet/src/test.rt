@@ -7,7 +7,7 @@ mod calls;
 mod parts;
 
 /// A test of the first `length` bits of a field: a value that fits the field's width, and a length of at most that width.
-#[derive(Clone, Copy)]
+#[derive(Clone, Copy, PartialEq, Eq, Debug)]
 pub struct Test {
     field: Field,
     value: u64,

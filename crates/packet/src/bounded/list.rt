@@ -1,7 +1,7 @@
 ghost use Rattle.std.specs.Prelude.{◌≡◌, ℕ, ◌+◌, ◌-◌, ◌<◌, ◌≤◌, List, [], ◌∷◌, ◌++◌, length, take};
 ghost use Rattle.packet.specs.Items.{items_of, Popped, Pushed};
 
-use super::Bounded;
+use super::{Bounded, Full};
 
 impl<T: Copy, const N: usize> Bounded<T, N> {
     /// The empty list; `filler` stands in the array where no item does.
@@ -25,20 +25,19 @@ impl<T: Copy, const N: usize> Bounded<T, N> {
     pub fn as_slice(&self) -> &[T]
         ensures { result.now ≡ items_of self.now }
     {
-        let all = &self.items[..];
-        &all[0..self.len]
+        &self.items[..self.len]
     }
 
-    /// Puts an item at the end, or answers false where `N` are there.
-    pub fn push(&mut self, item: T) -> bool
+    /// Puts an item at the end; refused where `N` are there.
+    pub fn push(&mut self, item: T) -> Result<(), Full>
         ensures { Pushed (items_of self.old) item N result (items_of self.new) }
     {
         if self.len == N {
-            return false;
+            return Err(Full);
         }
         self.items[self.len] = item;
         self.len += 1;
-        true
+        Ok(())
     }
 
     /// Takes the newest item off, or answers none where there is none.
@@ -56,8 +55,6 @@ impl<T: Copy, const N: usize> Bounded<T, N> {
     pub fn truncate(&mut self, len: usize)
         ensures { items_of self.new ≡ take len (items_of self.old) }
     {
-        if len < self.len {
-            self.len = len;
-        }
+        self.len = self.len.min(len);
     }
 }

@@ -1,8 +1,8 @@
-ghost use Rattle.std.specs.Prelude.{◌≡◌, Some};
+ghost use Rattle.std.specs.Prelude.{◌≡◌, Some, ◌++◌, codes, decimal};
 ghost use Rattle.packet.specs.Faults.{number_of};
-ghost use Rattle.packet.specs.Telling.{builder_meaning, host_meaning, meaning_of, name_of, reader_meaning, switch_meaning, told};
+ghost use Rattle.packet.specs.Telling.{builder_meaning, host_meaning, name_of, reader_meaning, switch_meaning, told, told_place};
 
-use super::{BuilderCause, Call, Fault, HostCause, ReaderCause, SwitchCause};
+use super::{BuilderCause, Call, Fault, HostCause, ReaderCause, SwitchCause, TextPlace};
 use std::fmt;
 
 impl Fault {
@@ -11,108 +11,87 @@ impl Fault {
         ensures { result ≡ number_of self.now }
     {
         match self {
-            Fault::Reader { cause, .. } => match cause {
-                ReaderCause::Byte => 1,
-                ReaderCause::Head => 2,
-                ReaderCause::Word => 3,
-                ReaderCause::Value => 4,
-                ReaderCause::Depth => 5,
-                ReaderCause::Nodes => 6,
-            },
-            Fault::Builder { cause, .. } => match cause {
-                BuilderCause::NotCarried => 7,
-                BuilderCause::Copies => 8,
-                BuilderCause::Rows => 9,
-                BuilderCause::WorkRows => 10,
-            },
-            Fault::Host { cause, .. } => match cause {
-                HostCause::Numbers => 11,
-            },
-            Fault::Switch { cause, .. } => match cause {
-                SwitchCause::Shut => 12,
-                SwitchCause::Broken => 13,
-                SwitchCause::Waiting => 14,
-                SwitchCause::Full => 15,
-            },
-        }
-    }
-
-    /// What the refusal means, in a few words.
-    fn meaning(&self) -> &'static str
-        ensures { result.now ≡ meaning_of self.now }
-    {
-        match self {
-            Fault::Reader { cause, .. } => cause.meaning(),
-            Fault::Builder { cause, .. } => cause.meaning(),
-            Fault::Host { cause, .. } => cause.meaning(),
-            Fault::Switch { cause, .. } => cause.meaning(),
+            Fault::Reader { cause, .. } => *cause as u8,
+            Fault::Builder { cause, .. } => *cause as u8,
+            Fault::Host { cause, .. } => *cause as u8,
+            Fault::Switch { cause, .. } => *cause as u8,
         }
     }
 }
 
-impl ReaderCause {
-    fn meaning(self) -> &'static str
-        ensures { result.now ≡ reader_meaning self }
-    {
-        match self {
+impl fmt::Display for TextPlace {
+    ghost output = { λ p. Some (told_place p) };
+
+    fn fmt<W: fmt::Write>(&self, f: &mut fmt::Formatter<W>) -> fmt::Result {
+        let line = self.line;
+        let byte = self.byte;
+        write!(f, "line {line}, byte {byte}")
+    }
+}
+
+impl fmt::Display for ReaderCause {
+    ghost output = { λ c. Some (reader_meaning c) };
+
+    fn fmt<W: fmt::Write>(&self, f: &mut fmt::Formatter<W>) -> fmt::Result {
+        f.write_str(match self {
             ReaderCause::Byte => "a byte that stands in no policy text",
             ReaderCause::Head => "a head word that cannot stand there",
             ReaderCause::Word => "a wrong, missing or extra word or bracket",
             ReaderCause::Value => "a malformed value, or one outside its field",
             ReaderCause::Depth => "an opening bracket deeper than 16",
             ReaderCause::Nodes => "a node past 64",
-        }
+        })
     }
 }
 
-impl BuilderCause {
-    fn meaning(self) -> &'static str
-        ensures { result.now ≡ builder_meaning self }
-    {
-        match self {
+impl fmt::Display for BuilderCause {
+    ghost output = { λ c. Some (builder_meaning c) };
+
+    fn fmt<W: fmt::Write>(&self, f: &mut fmt::Formatter<W>) -> fmt::Result {
+        f.write_str(match self {
             BuilderCause::NotCarried => "a test that the header kind does not carry",
             BuilderCause::Copies => "a row with more than 8 copies",
             BuilderCause::Rows => "more rows than fit",
             BuilderCause::WorkRows => "more rows alive than work rows",
-        }
+        })
     }
 }
 
-impl HostCause {
-    fn meaning(self) -> &'static str
-        ensures { result.now ≡ host_meaning self }
-    {
-        match self {
+impl fmt::Display for HostCause {
+    ghost output = { λ c. Some (host_meaning c) };
+
+    fn fmt<W: fmt::Write>(&self, f: &mut fmt::Formatter<W>) -> fmt::Result {
+        f.write_str(match self {
             HostCause::Numbers => "numbers that break a packet's rules",
-        }
+        })
     }
 }
 
-impl SwitchCause {
-    fn meaning(self) -> &'static str
-        ensures { result.now ≡ switch_meaning self }
-    {
-        match self {
+impl fmt::Display for SwitchCause {
+    ghost output = { λ c. Some (switch_meaning c) };
+
+    fn fmt<W: fmt::Write>(&self, f: &mut fmt::Formatter<W>) -> fmt::Result {
+        f.write_str(match self {
             SwitchCause::Shut => "the link is shut",
             SwitchCause::Broken => "the link broke",
             SwitchCause::Waiting => "16 messages wait already",
             SwitchCause::Full => "the switch has no room for a row",
-        }
+        })
     }
 }
 
-impl Call {
-    /// The name by which a fault tells its place.
-    fn name(self) -> &'static str
-        ensures { result.now ≡ name_of self }
-    {
-        match self {
+/// The name by which a fault tells its place.
+impl fmt::Display for Call {
+    ghost output = { λ c. Some (name_of c) };
+
+    fn fmt<W: fmt::Write>(&self, f: &mut fmt::Formatter<W>) -> fmt::Result {
+        f.write_str(match self {
             Call::Packet => "packet",
             Call::Put => "put",
             Call::Fence => "fence",
             Call::Out => "out",
             Call::Step => "step",
-        }
+        })
     }
 }
 
@@ -121,30 +100,18 @@ impl fmt::Display for Fault {
 
     fn fmt<W: fmt::Write>(&self, f: &mut fmt::Formatter<W>) -> fmt::Result {
         let number = self.number();
-        let meaning = self.meaning();
         match self {
-            Fault::Reader { place, .. } => {
-                let line = place.line;
-                let byte = place.byte;
-                write!(
-                    f,
-                    "refused {number} by the reader at line {line}, byte {byte}: {meaning}"
-                )
+            Fault::Reader { cause, place } => {
+                write!(f, "refused {number} by the reader at {place}: {cause}")
             }
-            Fault::Builder { node, .. } => {
-                let node = *node;
-                write!(
-                    f,
-                    "refused {number} by the builder at node {node}: {meaning}"
-                )
+            Fault::Builder { cause, node } => {
+                write!(f, "refused {number} by the builder at node {node}: {cause}")
             }
-            Fault::Host { call, .. } => {
-                let name = call.name();
-                write!(f, "refused {number} by the host at {name}: {meaning}")
+            Fault::Host { cause, call } => {
+                write!(f, "refused {number} by the host at {call}: {cause}")
             }
-            Fault::Switch { call, .. } => {
-                let name = call.name();
-                write!(f, "refused {number} by the switch at {name}: {meaning}")
+            Fault::Switch { cause, call } => {
+                write!(f, "refused {number} by the switch at {call}: {cause}")
             }
         }
     }

@@ -1,5 +1,5 @@
-ghost use Rattle.std.specs.Prelude.{◌≡◌, ◌^◌, ◌<◌, ◌&&◌, ◌||◌, ◌==◌, nat_lt};
-ghost use Rattle.packet.specs.Fields.{lawful, in_order, exists};
+ghost use Rattle.std.specs.Prelude.{◌≡◌};
+ghost use Rattle.packet.specs.Fields.{exists, in_order, lawful, row, sound};
 ghost use Rattle.packet.specs.Making.{Made};
 ghost use Rattle.packet.specs.Packets.{number};
 
@@ -7,29 +7,33 @@ use super::Packet;
 use crate::fault::{Call, Fault, HostCause};
 use crate::field::{Field, IP, TCP};
 
-/// Whether a number fits its width, and is 0 where it does not exist.
-fn allowed(number: u64, width: u8, exists: bool) -> bool
-    requires { width < 64 }
-    ensures { result ≡ (nat_lt number (2 ^ width) && (exists || number == 0)) }
+/// Whether a packet of these dltyp and nwproto has a field.
+fn exists_in(field: Field, dltyp: u64, nwproto: u64) -> bool
+    ensures { result ≡ exists (row 0 0 dltyp 0 0 nwproto 0 0) field }
 {
-    (number < 1 << width) & (exists | (number == 0))
+    let network = dltyp == IP;
+    let transport = network & (nwproto == TCP);
+    match field {
+        Field::DlSrc | Field::DlDst | Field::DlTyp => true,
+        Field::NwSrc | Field::NwDst | Field::NwProto => network,
+        Field::TpSrc | Field::TpDst => transport,
+    }
+}
+
+/// Whether a field's number fits its width, and is 0 where the field does not exist.
+fn is_sound(given: &[u64; 8], field: Field) -> bool
+    ensures { result ≡ sound (in_order given.now) field }
+{
+    let [_, _, dltyp, _, _, nwproto, _, _] = *given;
+    let number = given[field.place()];
+    (number < 1 << field.width()) & (exists_in(field, dltyp, nwproto) | (number == 0))
 }
 
 /// Whether eight numbers, in the order of the fields, keep the rules of a packet.
 fn rules_kept(given: &[u64; 8]) -> bool
     ensures { result ≡ lawful (in_order given.now) }
 {
-    let [dlsrc, dldst, dltyp, nwsrc, nwdst, nwproto, tpsrc, tpdst] = *given;
-    let network = dltyp == IP;
-    let transport = network & (nwproto == TCP);
-    allowed(dlsrc, 48, true)
-        & allowed(dldst, 48, true)
-        & allowed(dltyp, 16, true)
-        & allowed(nwsrc, 32, network)
-        & allowed(nwdst, 32, network)
-        & allowed(nwproto, 8, network)
-        & allowed(tpsrc, 16, transport)
-        & allowed(tpdst, 16, transport)
+    Field::ALL.iter().all(|field| is_sound(given, *field))
 }
 
 impl Packet {
@@ -76,12 +80,6 @@ impl Packet {
     pub fn has(&self, field: Field) -> bool
         ensures { result ≡ exists (number self.now) field }
     {
-        let network = u64::from(self.dltyp) == IP;
-        let transport = network & (u64::from(self.nwproto) == TCP);
-        match field {
-            Field::DlSrc | Field::DlDst | Field::DlTyp => true,
-            Field::NwSrc | Field::NwDst | Field::NwProto => network,
-            Field::TpSrc | Field::TpDst => transport,
-        }
+        exists_in(field, u64::from(self.dltyp), u64::from(self.nwproto))
     }
 }

@@ -3,7 +3,7 @@ ghost use Rattle.packet.specs.Items.{items_of};
 ghost use Rattle.packet.specs.PortLists.{placed, Added};
 ghost use Rattle.packet.specs.Written.{written};
 
-use super::Ports;
+use super::{PortError, Ports};
 use crate::bounded::Bounded;
 
 /// How many ports a list has room for.
@@ -19,12 +19,11 @@ fn with_port(list: &Bounded<u8, 8>, port: u8) -> Bounded<u8, 8>
 {
     let mut grown = Bounded::new(0);
     let mut high = port;
-    let old = list.as_slice();
-    for here in old {
-        grown.push((*here).min(high));
+    for here in list.as_slice() {
+        grown.push((*here).min(high)).unwrap();
         high = (*here).max(high);
     }
-    grown.push(high);
+    grown.push(high).unwrap();
     grown
 }
 
@@ -38,16 +37,19 @@ impl Ports {
         }
     }
 
-    /// Adds a port at its place, or answers false: it is not 1 to 48, or eight are there.
-    pub fn add(&mut self, port: u8) -> bool
+    /// Adds a port at its place; refused where it is not 1 to 48, or where eight are there.
+    pub fn add(&mut self, port: u8) -> Result<(), PortError>
         ensures { Added (written self.old) port result (written self.new) }
     {
-        if port == 0 || port > HIGHEST || self.list.len() >= ROOM {
-            return false;
+        if port == 0 || port > HIGHEST {
+            return Err(PortError::NoPort);
+        }
+        if self.list.len() == ROOM {
+            return Err(PortError::Full);
         }
         let grown = with_port(&self.list, port);
         self.list = grown;
-        true
+        Ok(())
     }
 
     /// The ports in rising order.
