@@ -1,6 +1,6 @@
 -- The one text of some files, and how a fault in it is told.
 use Rattle.std.specs.Prelude.{◌≡◌, ℕ, ◌-◌, ◌<◌, ◌≤◌, Bool, true, cond, List, [], ◌∷◌, ◌++◌, map, length, take, vec_items, vec_len, string_bytes, codes, decimal, ◌==◌, slice_index, slice_index_or, count_by}
-use Rattle.packet.specs.Telling.{told}
+use Rattle.packet.specs.Telling.{told, told_place}
 use Rattle.packet.specs.declared.fault.Fault.{Fault}
 use Rattle.packet.specs.declared.fault.Fault.TheVariants.{Reader, Builder, Host, Switch}
 use Rattle.packet.specs.declared.fault.TextPlace.{TextPlace}
@@ -44,7 +44,7 @@ abbrev pub beside : Sources → ℕ → TextPlace → List ℕ
 beside s file whole =
     cond (vec_len s.files == 1)
     (codes " (" ++ (file_name s file ++ codes ")"))
-    (codes " (" ++ (file_name s file ++ (codes "; line " ++ (decimal whole.line ++ (codes ", byte " ++ (decimal whole.byte ++ codes " of the whole text)"))))))
+    (codes " (" ++ (file_name s file ++ (codes "; " ++ (told_place whole ++ codes " of the whole text)"))))
 
 -- a fault in one line: a reader's as told in the file that it is in
 abbrev pub Tells : Sources → Fault → List ℕ → Type 0

@@ -85,9 +85,7 @@ impl Sources {
         if self.files.len() == 1 {
             return format!(in heap; "{local} ({name})");
         }
-        let line = whole.line;
-        let byte = whole.byte;
-        format!(in heap; "{local} ({name}; line {line}, byte {byte} of the whole text)")
+        format!(in heap; "{local} ({name}; {whole} of the whole text)")
     }
 
     fn name_of(&self, file: usize) -> &str
