@@ -1,7 +1,7 @@
 -- A packet that is being typed: one word more, and no more words.
-use Rattle.std.proofs.Common.{◌≡◌, ℕ, ◌<◌, List, [], ◌∷◌, ◌++◌, map, length, get_or, set, Option, Some, None, IsSome, is_some, unwrap_or, sym, refl, ap, ◌∙◌, subst, inl, inr, arith, Ok, Err, Result, MatchResult, IsErrAnd, length-set, get_or-set_other, get_or-set_same}
+use Rattle.std.proofs.Common.{◌≡◌, ℕ, ◌<◌, List, [], ◌∷◌, ◌++◌, map, length, get_or, set, Option, Some, None, IsSome, is_some, unwrap_or, replicate, sym, refl, ap, ◌∙◌, subst, inl, inr, arith, Ok, Err, Result, MatchResult, IsErrAnd, length-set, get_or-set_other, get_or-set_same}
 use Rattle.std.proofs.Math.ListN.{get_or-map}
-use Rattle.std.proofs.lemmas.List.{ext_get_or, length-map}
+use Rattle.std.proofs.lemmas.List.{ext_get_or, get_or-replicate, length-map}
 use Rattle.std.specs.Array.{IsMapOf}
 use denote.Param.Members.{Mut, Called}
 use borrow.Author.Tests.{both_ways}
@@ -43,19 +43,6 @@ at_place t NwDst = get_or-map or_zero t.numbers 4 None
 at_place t NwProto = get_or-map or_zero t.numbers 5 None
 at_place t TpSrc = get_or-map or_zero t.numbers 6 None
 at_place t TpDst = get_or-map or_zero t.numbers 7 None
-
-abbrev no_number : Option ℕ
-no_number = None
-
-at_none : (f : Field) → get_or (None ∷ None ∷ None ∷ None ∷ None ∷ None ∷ None ∷ None ∷ []) (place f) no_number ≡ None
-at_none DlSrc = refl
-at_none DlDst = refl
-at_none DlTyp = refl
-at_none NwSrc = refl
-at_none NwDst = refl
-at_none NwProto = refl
-at_none TpSrc = refl
-at_none TpDst = refl
 
 place_small : (f : Field) → place f < 8
 place_small DlSrc = omega arith
@@ -122,14 +109,14 @@ pub record Sofar (text rest : List ℕ) (t : Typed) : Type 0 where
   pub begins : Begins text seen rest
   pub eight : length t.numbers ≡ 8
 
-pub no_words : (text rest : List ℕ) (t : Typed) → t.numbers ≡ None ∷ None ∷ None ∷ None ∷ None ∷ None ∷ None ∷ None ∷ [] → rest ≡ text → Sofar text rest t
+pub no_words : (text rest : List ℕ) (t : Typed) → t.numbers ≡ replicate 8 None → rest ≡ text → Sofar text rest t
 no_words text rest t none whole = record {
   seen = [];
   fields = [];
   given = tt;
   marked = tt;
   once = tt;
-  unseen = λ f _. ap (λ l. get_or l (place f) None) none ∙ at_none f;
+  unseen = λ f _. ap (λ l. get_or l (place f) None) none ∙ get_or-replicate 8 (place f) None None (place_small f);
   begins = whole;
   eight = ap length none;
 }

@@ -9,7 +9,7 @@ use std::alloc::Global;
 use text::number_of;
 
 /// What was asked for.
-#[derive(Drop)]
+#[derive(Debug, Drop)]
 pub enum Command {
     Help,
     Check {
@@ -23,7 +23,7 @@ pub enum Command {
 }
 
 /// What the next word of the arguments is.
-#[derive(Clone, Copy)]
+#[derive(Clone, Copy, PartialEq, Eq, Debug)]
 enum Due {
     /// An option or a file.
     Any,

@@ -19,6 +19,7 @@ pub enum Failure {
     Memory,
 }
 
+// The three `From` by hand: `#[from]` writes no `from_gives`, and clauses name the failure that a `?` makes.
 impl From<AllocError> for Failure {
     ghost from_gives = { λ _ r. r ≡ Memory };
 
