@@ -1,5 +1,5 @@
 -- The one text of some files, and how a fault in it is told.
-use Rattle.std.specs.Prelude.{◌≡◌, ℕ, ◌-◌, ◌<◌, ◌≤◌, Bool, true, cond, List, [], ◌∷◌, ◌++◌, map, length, take, vec_items, vec_len, string_bytes, codes, decimal, ◌==◌, slice_index, slice_index_or, count_by}
+use Rattle.std.specs.Prelude.{◌≡◌, ℕ, ◌-◌, ◌<◌, ◌≤◌, Bool, true, cond, List, [], ◌∷◌, ◌++◌, map, length, take, vec_items, vec_len, string_bytes, codes, ◌==◌, slice_index, slice_index_or, count_by}
 use Rattle.packet.specs.Telling.{told, told_place}
 use Rattle.packet.specs.declared.fault.Fault.{Fault}
 use Rattle.packet.specs.declared.fault.Fault.TheVariants.{Reader, Builder, Host, Switch}
