@@ -1,14 +1,11 @@
 -- The lines that the program answers.
-use Rattle.std.specs.Prelude.{ℕ, zero, suc, ◌+◌, List, [], ◌∷◌, ◌++◌, codes, decimal}
-
-abbrev pub repeated : ℕ → List ℕ → List ℕ
-repeated zero word = []
-repeated (suc n) word = repeated n word ++ word
+use Rattle.std.specs.List.{repeat}
+use Rattle.std.specs.Prelude.{ℕ, ◌+◌, List, [], ◌∷◌, ◌++◌, codes, decimal}
 
 -- ports in rising order from one on, each after a space and as often as it is counted
 abbrev pub listed : ℕ → List ℕ → List ℕ
 listed port [] = []
-listed port (count ∷ counts) = repeated count (codes " " ++ decimal port) ++ listed (port + 1) counts
+listed port (count ∷ counts) = repeat count (codes " " ++ decimal port) ++ listed (port + 1) counts
 
 abbrev pub or_none : List ℕ → List ℕ
 or_none [] = codes " none"

@@ -1,7 +1,6 @@
 -- The one text of some files, and how a fault in it is told.
-use Rattle.std.specs.Prelude.{◌≡◌, ℕ, ◌-◌, ◌<◌, ◌≤◌, Bool, true, cond, List, [], ◌∷◌, ◌++◌, map, length, take, vec_items, vec_len, string_bytes, codes, decimal, ◌==◌, slice_index, slice_index_or}
-use Rattle.packet.specs.PortLists.{times}
-use Rattle.packet.specs.Telling.{told}
+use Rattle.std.specs.Prelude.{◌≡◌, ℕ, ◌-◌, ◌<◌, ◌≤◌, Bool, true, cond, List, [], ◌∷◌, ◌++◌, map, length, take, vec_items, vec_len, string_bytes, codes, ◌==◌, slice_index, slice_index_or, count_by}
+use Rattle.packet.specs.Telling.{told, told_place}
 use Rattle.packet.specs.declared.fault.Fault.{Fault}
 use Rattle.packet.specs.declared.fault.Fault.TheVariants.{Reader, Builder, Host, Switch}
 use Rattle.packet.specs.declared.fault.TextPlace.{TextPlace}
@@ -20,7 +19,7 @@ text_of s = vec_items s.text
 
 -- the byte of the text at which each file begins
 abbrev pub starts_of : Sources → List ℕ
-starts_of s = vec_items s.starts
+starts_of s = map (λ f. f.start) (vec_items s.files)
 
 -- the last file that begins at a byte or before, counted from 0; 0 where none does
 pub record LastBegun (starts : List ℕ) (byte file : ℕ) : Type 0 where
@@ -28,7 +27,7 @@ pub record LastBegun (starts : List ℕ) (byte file : ℕ) : Type 0 where
   pub later : (k : ℕ) → file < k → k < length starts → byte < slice_index starts k
 
 abbrev pub line_ends : List ℕ → ℕ
-line_ends bytes = times 10 bytes
+line_ends bytes = count_by (λ b. b == 10) bytes
 
 abbrev pub start_of : Sources → ℕ → ℕ
 start_of s file = slice_index (starts_of s) file
@@ -38,14 +37,14 @@ abbrev pub in_file : Sources → ℕ → TextPlace → TextPlace
 in_file s file whole = record { line = whole.line - line_ends (take (start_of s file) (text_of s)); byte = whole.byte - start_of s file }
 
 abbrev pub file_name : Sources → ℕ → List ℕ
-file_name s file = slice_index_or (map string_bytes (vec_items s.names)) file (codes "no file")
+file_name s file = slice_index_or (map (λ f. string_bytes f.name) (vec_items s.files)) file (codes "no file")
 
 -- what follows a fault in a file: the file's name, and the place in the whole text unless that is the file's
 abbrev pub beside : Sources → ℕ → TextPlace → List ℕ
 beside s file whole =
-    cond (vec_len s.names == 1)
+    cond (vec_len s.files == 1)
     (codes " (" ++ (file_name s file ++ codes ")"))
-    (codes " (" ++ (file_name s file ++ (codes "; line " ++ (decimal whole.line ++ (codes ", byte " ++ (decimal whole.byte ++ codes " of the whole text)"))))))
+    (codes " (" ++ (file_name s file ++ (codes "; " ++ (told_place whole ++ codes " of the whole text)"))))
 
 -- a fault in one line: a reader's as told in the file that it is in
 abbrev pub Tells : Sources → Fault → List ℕ → Type 0

@@ -1,5 +1,5 @@
 -- Packets as people type them: words FIELD=V.
-use Rattle.std.specs.Prelude.{◌≡◌, ℕ, true, false, ◌⊎◌, List, [], ◌∷◌, ◌++◌, Some, ◌≢◌, slice_index_or, slice_set}
+use Rattle.std.specs.Prelude.{◌≡◌, ℕ, false, ◌⊎◌, List, [], ◌∷◌, ◌++◌, Some, None, IsSome, ◌≢◌, slice_index_or, slice_set}
 use Rattle.packet.specs.Fields.{Numbers, lawful, place}
 use Rattle.packet.specs.declared.field.Field.{Field}
 use Rattle.text.specs.Heads.{named_field}
@@ -48,13 +48,12 @@ pub record Adds (word : List ℕ) (old new : Typed) : Type 0 where
   pub field : Field
   pub number : ℕ
   pub gives : Gives word field number
-  pub fresh : slice_index_or old.given (place field) false ≡ false
-  pub numbers : new.numbers ≡ slice_set old.numbers (place field) number
-  pub given : new.given ≡ slice_set old.given (place field) true
+  pub fresh : slice_index_or old.numbers (place field) None ≡ None
+  pub numbers : new.numbers ≡ slice_set old.numbers (place field) (Some number)
 
 -- no word more: it gives no number, or one to a field that had one; no file is touched, so the system has no say
 abbrev pub AddsNone : List ℕ → Typed → Failure → Type 0
-AddsNone word old (Told line) = (f : Field) (n : ℕ) → Gives word f n → slice_index_or old.given (place f) false ≡ true
+AddsNone word old (Told line) = (f : Field) (n : ℕ) → Gives word f n → IsSome (slice_index_or old.numbers (place f) None)
 AddsNone word old (System e) = ⊥
 AddsNone word old Memory = Unit {0}
 

@@ -1,7 +1,8 @@
-ghost use Rattle.std.specs.Prelude.{◌≡◌, ◌++◌, IfOk, string_bytes, codes, decimal, MatchResult, OnOk};
+ghost use Rattle.std.specs.Prelude.{◌≡◌, ◌++◌, IfOk, string_bytes, codes, decimal, MatchResult};
+ghost use Rattle.std.specs.List.{repeat};
 ghost use Rattle.text.specs.Reads.{ReadsAs};
 ghost use Rattle.console.specs.Answers.{Fails, SaysNodes, SaysPorts};
-ghost use Rattle.console.specs.Lines.{listed, ports_line, repeated};
+ghost use Rattle.console.specs.Lines.{listed, ports_line};
 ghost use Rattle.console.specs.Texts.{text_of};
 
 use crate::failure::{Failure, told};
@@ -24,10 +25,8 @@ fn policy_of(heap: Global, sources: &Sources) -> Result<Policy, Failure>
     ensures { MatchResult result (λ p. ReadsAs (text_of sources.now) p) (λ f. Fails sources.now f) }
 {
     let mut policy = Policy::empty();
-    match read(&mut policy, sources.text()) {
-        Ok(()) => Ok(policy),
-        Err(fault) => told(sources.tell(heap, &fault)),
-    }
+    read(&mut policy, sources.text()).map_err(|fault| told(sources.tell(heap, &fault)))?;
+    Ok(policy)
 }
 
 /// How many nodes the policy of some files has.
@@ -64,24 +63,21 @@ fn line_of(heap: Global, counts: &[u16; 48]) -> Result<String, AllocError>
     format!(in heap; "ports{list}")
 }
 
-/// The ports of a line, each after a space.
+/// The ports of a line, each after a space and as often as it is counted.
 fn list_of(heap: Global, counts: &[u16]) -> Result<String, AllocError>
     ensures { IfOk result (λ list. string_bytes list ≡ listed 1 counts.now) }
 {
     let mut list = String::new(heap);
-    for (i, count) in counts.iter().enumerate() {
-        add_copies(heap, &mut list, i + 1, *count)?;
+    for (count, port) in counts.iter().zip(1..) {
+        let copies = copies_of(heap, port, *count)?;
+        list.push_str(copies.as_str())?;
     }
     Ok(list)
 }
 
-/// One port, as often as it is counted.
-fn add_copies(heap: Global, list: &mut String, port: usize, count: u16) -> Result<(), AllocError>
-    ensures { OnOk result (string_bytes list.new ≡ string_bytes list.old ++ repeated count (codes " " ++ decimal port)) }
+/// One port, after a space, as often as it is counted.
+fn copies_of(heap: Global, port: usize, count: u16) -> Result<String, AllocError>
+    ensures { IfOk result (λ copies. string_bytes copies ≡ repeat count (codes " " ++ decimal port)) }
 {
-    let word = format!(in heap; " {port}")?;
-    for done in 0..count {
-        list.push_str(word.as_str())?;
-    }
-    Ok(())
+    format!(in heap; " {port}")?.repeat(heap, usize::from(count))
 }

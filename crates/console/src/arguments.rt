@@ -1,5 +1,5 @@
-ghost use Rattle.std.specs.Prelude.{◌≡◌, IsErrAnd, Some, None, string_bytes, codes, MatchResult};
-ghost use Rattle.console.specs.Commands.{Asks, AsksNone, Because, Complete, Follows, Lacks, NoOption, Stuck, Takes, TakesAny, asked, names_of, nothing};
+ghost use Rattle.std.specs.Prelude.{◌≡◌, Some, None, string_bytes, codes, MatchResult};
+ghost use Rattle.console.specs.Commands.{Asks, AsksNone, Because, Complete, Follows, Lacks, NoOption, Stops, Stuck, Takes, TakesAll, TakesAny, asked, names_of, nothing};
 ghost use Rattle.text.specs.Values.{numeral};
 
 use crate::failure::{Failure, told};
@@ -9,7 +9,7 @@ use std::alloc::Global;
 use text::number_of;
 
 /// What was asked for.
-#[derive(Drop)]
+#[derive(Debug, Drop)]
 pub enum Command {
     Help,
     Check {
@@ -23,7 +23,7 @@ pub enum Command {
 }
 
 /// What the next word of the arguments is.
-#[derive(Clone, Copy)]
+#[derive(Clone, Copy, PartialEq, Eq, Debug)]
 enum Due {
     /// An option or a file.
     Any,
@@ -56,6 +56,17 @@ impl Options {
         }
     }
 
+    /// All words, one after another.
+    fn from_words(heap: Global, words: Vec<String>) -> Result<Options, Failure>
+        ensures { MatchResult result (λ o. TakesAll nothing (names_of words) (asked o)) (Because (Stops nothing (names_of words))) }
+    {
+        let mut options = Options::new(heap);
+        for word in words {
+            options.add(heap, word)?;
+        }
+        Ok(options)
+    }
+
     fn add(&mut self, heap: Global, word: String) -> Result<(), Failure>
         ensures { MatchResult result (λ _. Takes (asked self.old) (string_bytes word) (asked self.new)) (Because (Stuck self.old.due (string_bytes word))) }
     {
@@ -85,12 +96,12 @@ impl Options {
             "--" => self.due = Due::File,
             "--switch" => self.due = Due::Switch,
             "--packet" => self.due = Due::Packet,
-            text => {
-                if text.starts_with("--") {
-                    return no_option(heap, word);
-                }
-                self.files.push(word)?;
+            text if text.starts_with("--") => {
+                return Err(told(format!(in heap;
+                    "yarnbrick: no option '{word}'; 'yarnbrick help' lists them"
+                )));
             }
+            _ => self.files.push(word)?,
         }
         Ok(())
     }
@@ -100,12 +111,16 @@ impl Options {
         ensures { MatchResult result (λ _. Complete (asked self.now)) (Because (Complete (asked self.now) → ⊥)) }
     {
         match self.due {
-            Due::Switch => return told(format!(in heap; "yarnbrick: --switch wants a number")),
-            Due::Packet => return told(format!(in heap; "yarnbrick: --packet wants words FIELD=V")),
+            Due::Switch => {
+                return Err(told(format!(in heap; "yarnbrick: --switch wants a number")));
+            }
+            Due::Packet => {
+                return Err(told(format!(in heap; "yarnbrick: --packet wants words FIELD=V")));
+            }
             Due::Any | Due::File => {}
         }
         if self.files.is_empty() {
-            return told(format!(in heap; "yarnbrick: {command} wants a policy file"));
+            return Err(told(format!(in heap; "yarnbrick: {command} wants a policy file")));
         }
         Ok(())
     }
@@ -114,67 +129,49 @@ impl Options {
         ensures { MatchResult result (Follows (codes "check") (asked self)) (Because (Lacks (codes "check") (asked self))) }
     {
         self.finish(heap, "check")?;
-        let Options {
-            due: _,
-            switch,
-            packet,
-            files,
-        } = self;
-        if switch.is_some() || packet.is_some() {
-            return told(format!(in heap; "yarnbrick: check takes files only"));
+        if self.switch.is_some() || self.packet.is_some() {
+            return Err(told(format!(in heap; "yarnbrick: check takes files only")));
         }
-        Ok(Command::Check { files })
+        Ok(Command::Check { files: self.files })
     }
 
     fn ports(self, heap: Global) -> Result<Command, Failure>
         ensures { MatchResult result (Follows (codes "ports") (asked self)) (Because (Lacks (codes "ports") (asked self))) }
     {
         self.finish(heap, "ports")?;
-        let Options {
-            due: _,
-            switch,
+        let Some(packet) = self.packet else {
+            return Err(told(format!(in heap;
+                "yarnbrick: ports wants --packet \"FIELD=V ..\""
+            )));
+        };
+        Ok(Command::Ports {
+            switch: self.switch.unwrap_or(1),
             packet,
-            files,
-        } = self;
-        match packet {
-            Some(packet) => Ok(Command::Ports {
-                switch: switch.unwrap_or(1),
-                packet,
-                files,
-            }),
-            None => told(format!(in heap; "yarnbrick: ports wants --packet \"FIELD=V ..\"")),
-        }
+            files: self.files,
+        })
     }
-}
-
-fn no_option(heap: Global, word: String) -> Result<(), Failure>
-    ensures { IsErrAnd result (Because (Unit {0})) }
-{
-    told(format!(in heap; "yarnbrick: no option '{word}'; 'yarnbrick help' lists them"))
 }
 
 /// A switch number, 0 to 65535.
 fn switch_of(heap: Global, word: &str) -> Result<u16, Failure>
     ensures { MatchResult result (λ n. numeral 65535 word.now ≡ Some n) (Because (numeral 65535 word.now ≡ None)) }
 {
-    match number_of(word.as_bytes(), 65535) {
-        Some(number) => Ok(number),
-        None => told(format!(in heap; "yarnbrick: a switch number is 0 to 65535, not '{word}'")),
-    }
+    number_of(word.as_bytes(), 65535).ok_or_else(|| {
+        told(format!(in heap; "yarnbrick: a switch number is 0 to 65535, not '{word}'"))
+    })
 }
 
 /// The command of that name, with the words after it.
 pub fn command_of(heap: Global, name: &str, words: Vec<String>) -> Result<Command, Failure>
     ensures { MatchResult result (Asks name.now (names_of words)) (Because (AsksNone name.now (names_of words))) }
 {
-    let mut options = Options::new(heap);
-    for word in words {
-        options.add(heap, word)?;
-    }
+    let options = Options::from_words(heap, words)?;
     match name {
         "check" => options.check(heap),
         "ports" => options.ports(heap),
         "help" => Ok(Command::Help),
-        _ => told(format!(in heap; "yarnbrick: no command '{name}'; 'yarnbrick help' lists them")),
+        _ => Err(told(format!(in heap;
+            "yarnbrick: no command '{name}'; 'yarnbrick help' lists them"
+        ))),
     }
 }

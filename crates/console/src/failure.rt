@@ -1,20 +1,25 @@
-ghost use Rattle.std.specs.Prelude.{◌≡◌, Err, MatchResult};
+ghost use Rattle.std.specs.Prelude.{◌≡◌, MatchResult};
 ghost use Rattle.console.specs.declared.failure.Failure.TheVariants.{Memory, System, Told};
 
 use std::alloc::{AllocError, AllocFailed};
-use std::{fmt, io};
+use std::io;
+use thiserror::Error;
 
 /// What ends a command without its answer.
-#[derive(Drop)]
+#[derive(Debug, Drop, Error)]
 pub enum Failure {
     /// Something typed, a file, or a refusal by the rules, told in one line.
+    #[error("{0}")]
     Told(String),
     /// The system's own error.
+    #[error("yarnbrick: {0}")]
     System(io::Error),
     /// Want of memory.
+    #[error("yarnbrick: out of memory")]
     Memory,
 }
 
+// The three `From` by hand: `#[from]` writes no `from_gives`, and clauses name the failure that a `?` makes.
 impl From<AllocError> for Failure {
     ghost from_gives = { λ _ r. r ≡ Memory };
 
@@ -39,22 +44,9 @@ impl From<io::Error> for Failure {
     }
 }
 
-impl fmt::Display for Failure {
-    fn fmt<W: fmt::Write>(&self, f: &mut fmt::Formatter<W>) -> fmt::Result {
-        match self {
-            Failure::Told(line) => write!(f, "{line}"),
-            Failure::System(error) => write!(f, "yarnbrick: {error}"),
-            Failure::Memory => write!(f, "yarnbrick: out of memory"),
-        }
-    }
-}
-
 /// The failure that a line tells.
-pub fn told<T>(line: Result<String, AllocError>) -> Result<T, Failure>
-    ensures { MatchResult line (λ s. result ≡ Err (Told s)) (λ _. result ≡ Err Memory) }
+pub fn told(line: Result<String, AllocError>) -> Failure
+    ensures { MatchResult line (λ s. result ≡ Told s) (λ _. result ≡ Memory) }
 {
-    match line {
-        Ok(line) => Err(Failure::Told(line)),
-        Err(_) => Err(Failure::Memory),
-    }
+    line.map_or_else(Failure::from, Failure::Told)
 }

@@ -7,11 +7,10 @@ use packet::Packet;
 use std::alloc::Global;
 use text::{field_of, value_of};
 
-/// The numbers of a packet that is being typed, and which have been given.
+/// The numbers of a packet that is being typed, each once it has been given.
 #[derive(Clone, Copy)]
 struct Typed {
-    numbers: [u64; 8],
-    given: [bool; 8],
+    numbers: [Option<u64>; 8],
 }
 
 impl Typed {
@@ -20,22 +19,21 @@ impl Typed {
         ensures { MatchResult result (λ _. Adds word.now self.old self.new) (AddsNone word.now self.old) }
     {
         let Some((name, value)) = word.split_once('=') else {
-            return told(format!(in heap;
+            return Err(told(format!(in heap;
                 "yarnbrick: a packet is given by words FIELD=V, not '{word}'"
-            ));
+            )));
         };
         let Some(field) = field_of(name.as_bytes()) else {
-            return told(format!(in heap; "yarnbrick: a packet has no field '{name}'"));
+            return Err(told(format!(in heap; "yarnbrick: a packet has no field '{name}'")));
         };
         let Some(number) = value_of(field, value.as_bytes()) else {
-            return told(format!(in heap; "yarnbrick: '{value}' is no value of {name}"));
+            return Err(told(format!(in heap; "yarnbrick: '{value}' is no value of {name}")));
         };
         let place = field.place();
-        if self.given[place] {
-            return told(format!(in heap; "yarnbrick: {name} is given twice"));
+        if self.numbers[place].is_some() {
+            return Err(told(format!(in heap; "yarnbrick: {name} is given twice")));
         }
-        self.numbers[place] = number;
-        self.given[place] = true;
+        self.numbers[place] = Some(number);
         Ok(())
     }
 }
@@ -44,15 +42,10 @@ impl Typed {
 pub fn packet_of(heap: Global, words: &str) -> Result<Packet, Failure>
     ensures { MatchResult result (λ p. Describes words.now (number p)) (Refuses words.now) }
 {
-    let mut typed = Typed {
-        numbers: [0; 8],
-        given: [false; 8],
-    };
+    let mut typed = Typed { numbers: [None; 8] };
     for word in words.split_whitespace() {
         typed.add(heap, word)?;
     }
-    match Packet::new(&typed.numbers) {
-        Ok(packet) => Ok(packet),
-        Err(fault) => told(format!(in heap; "{fault}")),
-    }
+    let numbers = typed.numbers.map(|number| number.unwrap_or(0));
+    Packet::new(&numbers).map_err(|fault| told(format!(in heap; "{fault}")))
 }

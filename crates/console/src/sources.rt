@@ -1,4 +1,4 @@
-ghost use Rattle.std.specs.Prelude.{◌≡◌, [], ◌++◌, IfOk, string_bytes, OnOk};
+ghost use Rattle.std.specs.Prelude.{◌≡◌, [], ◌∷◌, ◌++◌, length, vec_items, IfOk, string_bytes, OnOk};
 ghost use Rattle.packet.specs.Telling.{told};
 ghost use Rattle.console.specs.Texts.{LastBegun, Tells, beside, ended, ends_line, file_name, in_file, line_ends, starts_of, text_of};
 
@@ -6,33 +6,40 @@ use crate::failure::Failure;
 use packet::{Fault, TextPlace};
 use std::alloc::{AllocError, Global};
 
+/// A policy file.
+#[derive(Drop)]
+struct File {
+    name: String,
+    /// The byte of the whole text at which the file begins.
+    start: usize,
+}
+
 /// Policy files read as one text, in the order given.
 #[derive(Drop)]
 pub struct Sources {
-    names: Vec<String>,
-    /// The byte of the text at which each file begins.
-    starts: Vec<usize>,
+    files: Vec<File>,
     text: Vec<u8>,
 }
 
 impl Sources {
     /// No files.
     pub fn new(heap: Global) -> Sources
-        ensures { text_of result ≡ [] }
+        ensures text { text_of result ≡ [] }
+        ensures files { vec_items result.files ≡ [] }
     {
         Sources {
-            names: Vec::new(heap),
-            starts: Vec::new(heap),
+            files: Vec::new(heap),
             text: Vec::new(heap),
         }
     }
 
     /// One file more; where its last line has no end, it gets one.
     pub fn add(&mut self, name: String, content: &[u8]) -> Result<(), Failure>
-        ensures { OnOk result (text_of self.new ≡ text_of self.old ++ ended content.now) }
+        ensures text { OnOk result (text_of self.new ≡ text_of self.old ++ ended content.now) }
+        ensures file { OnOk result (vec_items self.new.files ≡ vec_items self.old.files ++ record { name = name; start = length (text_of self.old) } ∷ []) }
     {
-        self.names.push(name)?;
-        self.starts.push(self.text.len())?;
+        let start = self.text.len();
+        self.files.push(File { name, start })?;
         self.text.extend_from_slice(content)?;
         if !has_line_end(content) {
             self.text.push(b'\n')?;
@@ -75,41 +82,33 @@ impl Sources {
         ensures { IfOk result (λ line. string_bytes line ≡ told local.now ++ beside self.now file whole.now) }
     {
         let name = self.name_of(file);
-        if self.names.len() == 1 {
+        if self.files.len() == 1 {
             return format!(in heap; "{local} ({name})");
         }
-        let line = whole.line;
-        let byte = whole.byte;
-        format!(in heap; "{local} ({name}; line {line}, byte {byte} of the whole text)")
+        format!(in heap; "{local} ({name}; {whole} of the whole text)")
     }
 
     fn name_of(&self, file: usize) -> &str
         ensures { result.now ≡ file_name self.now file }
     {
-        match self.names.get(file) {
-            Some(name) => name.as_str(),
-            None => "no file",
-        }
+        self.files.get(file).map_or("no file", |file| file.name.as_str())
     }
 
     /// The number of the file that a place is in: the last that begins there or before.
     fn file_of(&self, place: &TextPlace) -> usize
         ensures { LastBegun (starts_of self.now) place.now.byte result }
     {
-        let mut found = 0;
-        for (i, start) in self.starts.iter().enumerate() {
-            if *start <= place.byte {
-                found = i;
-            }
-        }
-        found
+        self.files
+            .iter()
+            .rposition(|file| file.start <= place.byte)
+            .unwrap_or(0)
     }
 
     /// A place counted in a file.
     fn in_file(&self, file: usize, place: &TextPlace) -> TextPlace
         ensures { result ≡ in_file self.now file place.now }
     {
-        let start = self.starts.get(file).copied().unwrap_or(0);
+        let start = self.files.get(file).map_or(0, |file| file.start);
         let text = self.text();
         let before = text.get(..start).unwrap_or(text);
         TextPlace {
@@ -123,21 +122,12 @@ impl Sources {
 fn has_line_end(content: &[u8]) -> bool
     ensures { result ≡ ends_line content.now }
 {
-    if content.is_empty() {
-        return true;
-    }
-    content[content.len() - 1] == b'\n'
+    content.last().is_none_or(|byte| *byte == b'\n')
 }
 
 /// How many line ends there are.
 fn line_ends(content: &[u8]) -> usize
     ensures { result ≡ line_ends content.now }
 {
-    let mut n = 0usize;
-    for b in content {
-        if *b == b'\n' {
-            n = n.saturating_add(1);
-        }
-    }
-    n
+    content.iter().filter(|byte| **byte == b'\n').count()
 }

@@ -10,12 +10,10 @@ fn gather(rt: &HostRuntime, files: Vec<String>) -> Result<Sources, Failure> {
     let heap = rt.alloc();
     let mut sources = Sources::new(heap);
     for name in files {
-        match fs::read(rt, name.as_str()) {
-            Ok(content) => sources.add(name, content.as_slice())?,
-            Err(error) => return Err(Failure::Told(format!(in heap;
-                "yarnbrick: cannot read {name}: {error}"
-            )?)),
-        }
+        let content = fs::read(rt, name.as_str()).try_map_err(|error| {
+            Ok(Failure::Told(format!(in heap; "yarnbrick: cannot read {name}: {error}")?))
+        })?;
+        sources.add(name, content.as_slice())?;
     }
     Ok(sources)
 }
@@ -23,16 +21,13 @@ fn gather(rt: &HostRuntime, files: Vec<String>) -> Result<Sources, Failure> {
 /// What the arguments ask for, answered in a line or more.
 fn answer(rt: &HostRuntime) -> Result<String, Failure> {
     let heap = rt.alloc();
-    let mut words = Vec::new(heap);
-    for word in env::args(rt)?.skip(1) {
-        words.push(word)?;
-    }
-    if words.is_empty() {
+    let mut words = env::args(rt)?.skip(1);
+    let Some(name) = words.next() else {
         return Err(Failure::Told(format!(in heap;
             "yarnbrick: no command; 'yarnbrick help' lists them"
         )?));
-    }
-    let name = words.remove(0);
+    };
+    let words = words.collect(heap)?;
     match console::command_of(heap, name.as_str(), words)? {
         Command::Help => Ok(String::from_str(heap, console::HELP)?),
         Command::Check { files } => console::check(heap, &gather(rt, files)?),

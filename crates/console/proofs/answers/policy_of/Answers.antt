@@ -1,22 +1,10 @@
 -- A text that is refused writes no policy, and its first fault is told.
-use Rattle.std.proofs.Common.{string_bytes, sym, ap, ◌∙◌, subst}
-use Rattle.text.specs.Grammar.{Writes}
-use Rattle.text.specs.Reads.{ReadsAs}
-use Rattle.text.specs.Text.{read_text}
-use Rattle.console.specs.Answers.{Fails}
-use Rattle.console.specs.Texts.{Tells, text_of}
-use Rattle.console.specs.declared.failure.Failure.TheVariants.{Told}
-use Rattle.console.proofs.Failing.{told_known}
+use Rattle.std.proofs.Common.{Err, sym, ap, ◌∙◌, rules}
+use Rattle.std.proofs.lemmas.Result.{err_from_is_err_and}
+use Rattle.console.proofs.Refusing.{refused}
 use Rattle.console.proofs.answers.policy_of.Goals as goal
 
-pub returns-in-Err : goal.returns-in-Err
-returns-in-Err c =
-    let sources = c.args.sources.now in
-    let refused = c.in-Err.ensures in
-    told_known Told (λ p. ReadsAs (text_of sources) p) (Fails sources) (λ s. Tells sources c.in-Err.fault (string_bytes s)) c.tell.result c.told.result c.tell.ensures
-    (λ s tells. record {
-      first_fault = c.in-Err.fault;
-      read_so = ap read_text (sym c.text.ensures) ∙ refused.answer.first;
-      tells = tells;
-      nothing = λ q w. refused.grammar q (subst (λ t. Writes t q) (sym c.text.ensures) w);
-    }) tt c.told.ensures
+pub returns-in_err-map_err : goal.returns-in_err-map_err
+returns-in_err-map_err c =
+    let p = err_from_is_err_and c.from_residual.result c.from_residual.ensures.1 in
+    rw p.1 (refused _ c.args.sources.now _ c.read.result c.map_err.result _ _ _ c.text.ensures c.read.ensures.answer c.read.ensures.grammar c.map_err.ensures.cases (c.in_err-map_err.was ∙ ap Err (sym p.2)) (λ e post. search rules))

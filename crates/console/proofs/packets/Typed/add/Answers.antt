@@ -1,6 +1,5 @@
 -- A word is added exactly where it gives a number to a field that has none.
-use Rattle.std.proofs.Common.{true, false, get_or, set, Some, sym, ap, ◌∙◌, arith}
-use Rattle.std.proofs.lemmas.Str.Pattern.{split_parts}
+use Rattle.std.proofs.Common.{get_or, None, is_some, sym, ap, ◌∙◌}
 use Rattle.text.specs.Heads.{named_field}
 use Rattle.text.specs.Values.{test_from, full_value}
 use Rattle.packet.specs.Fields.{place}
@@ -10,39 +9,16 @@ use Rattle.console.proofs.Failing.{told_case}
 use Rattle.console.proofs.Signs.{never_whole, never_unnamed, never_unsaid, same_field}
 use Rattle.console.proofs.packets.Typed.add.Goals as goal
 
-pub returns : goal.returns
-returns c =
-    let old = c.args.self.now in
-    let name = c.in-Some.name in
-    let value = c.in-Some.value in
-    let f = c.in-Some-field_of.field in
-    let n = c.in-Some-value_of.number in
-    let parts = split_parts 61 c.args.word.now (Some (name, value)) c.in-Some.ensures.cases (omega arith) in
-    record {
-      field = f;
-      number = n;
-      gives = record {
-        front = name.now;
-        back = value.now;
-        cut = parts.0;
-        names = ap named_field (sym c.as_bytes.ensures.value) ∙ sym c.field_of.ensures ∙ c.in-Some-field_of.is;
-        says = ap (λ l. full_value f (test_from f l)) (sym c.as_bytes-2.ensures.value) ∙ sym c.value_of.ensures ∙ c.in-Some-value_of.is;
-      };
-      fresh = ap (λ i. get_or old.given i false) (sym c.place-place.ensures.is) ∙ c.if-self-place.false;
-      numbers = ap (λ i. set old.numbers i n) c.place-place.ensures.is;
-      given = ap (λ i. set old.given i true) c.place-place.ensures.is;
-    }
-
 pub returns-in_default : goal.returns-in_default
 returns-in_default c =
     let word = c.args.word.now in
-    told_case Told _ (AddsNone word c.args.self.now) c.format.result c.told.result (λ line f n g. absurd (never_whole g c.in_default.ensures.cases)) tt c.told.ensures
+    told_case Told (AddsNone word c.args.self.now) c.format.result c.told.result (λ line f n g. absurd (never_whole g c.in_default.ensures.cases)) tt c.told.ensures
 
 pub returns-in_default-field_of : goal.returns-in_default-field_of
 returns-in_default-field_of c =
     let word = c.args.word.now in
     let none = ap named_field (sym c.as_bytes.ensures.value) ∙ sym c.field_of.ensures ∙ c.in_default-field_of.is in
-    told_case Told _ (AddsNone word c.args.self.now) c.format-in_default-field_of.result c.told-in_default-field_of.result
+    told_case Told (AddsNone word c.args.self.now) c.format-in_default-field_of.result c.told-in_default-field_of.result
     (λ line f n g. absurd (never_unnamed g (c.in-Some.name, c.in-Some.value) c.in-Some.ensures.cases none)) tt c.told-in_default-field_of.ensures
 
 pub returns-in_default-value_of : goal.returns-in_default-value_of
@@ -51,16 +27,16 @@ returns-in_default-value_of c =
     let h = c.in-Some-field_of.field in
     let named = ap named_field (sym c.as_bytes.ensures.value) ∙ sym c.field_of.ensures ∙ c.in-Some-field_of.is in
     let none = ap (λ l. full_value h (test_from h l)) (sym c.as_bytes-2.ensures.value) ∙ sym c.value_of.ensures ∙ c.in_default-value_of.is in
-    told_case Told _ (AddsNone word c.args.self.now) c.format-in_default-value_of.result c.told-in_default-value_of.result
+    told_case Told (AddsNone word c.args.self.now) c.format-in_default-value_of.result c.told-in_default-value_of.result
     (λ line f n g. absurd (never_unsaid g (c.in-Some.name, c.in-Some.value) c.in-Some.ensures.cases h named none)) tt c.told-in_default-value_of.ensures
 
-pub returns-then-self-place : goal.returns-then-self-place
-returns-then-self-place c =
+pub returns-then-is_some : goal.returns-then-is_some
+returns-then-is_some c =
     let word = c.args.word.now in
     let old = c.args.self.now in
     let named = ap named_field (sym c.as_bytes.ensures.value) ∙ sym c.field_of.ensures ∙ c.in-Some-field_of.is in
-    told_case Told _ (AddsNone word old) c.format-then-self-place.result c.told-then-self-place.result
+    told_case Told (AddsNone word old) c.format-then-is_some.result c.told-then-is_some.result
     (λ line f n g.
     let same = same_field g (c.in-Some.name, c.in-Some.value) c.in-Some.ensures.cases c.in-Some-field_of.field named in
-    ap (λ k. get_or old.given (place k) false) same ∙ ap (λ i. get_or old.given i false) (sym c.place-place.ensures.is) ∙ c.if-self-place.true)
-    tt c.told-then-self-place.ensures
+    ap (λ k. is_some (get_or old.numbers (place k) None)) same ∙ ap (λ i. is_some (get_or old.numbers i None)) (sym c.place-place.ensures.is) ∙ sym c.is_some.ensures ∙ c.if-is_some.true)
+    tt c.told-then-is_some.ensures

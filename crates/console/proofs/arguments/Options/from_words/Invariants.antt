@@ -2,7 +2,7 @@
 use Rattle.std.proofs.Common.{map, string_bytes}
 use Rattle.std.specs.Vec.Iter.{into_iter_items}
 use Rattle.console.specs.Commands.{Asked, Stops, TakesAll, asked}
-use Rattle.console.proofs.arguments.command_of.Given as goal
+use Rattle.console.proofs.arguments.Options.from_words.Given as goal
 
 abbrev pub invariant-loop-word : goal.invariant-loop-word
 invariant-loop-word l =
