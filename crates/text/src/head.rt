@@ -1,16 +1,8 @@
 //! Head words.
 ghost use Rattle.std.specs.Prelude.{◌≡◌};
-ghost use Rattle.std.specs.Str.{bytes_eq};
 ghost use Rattle.text.specs.Heads.{named_field};
 
 use packet::Field;
-
-/// Whether a word is that name.
-pub fn same(w: &[u8], name: &[u8]) -> bool
-    ensures { result ≡ bytes_eq w.now name.now }
-{
-    w == name
-}
 
 /// The field that a word names.
 pub fn field_of(word: &[u8]) -> Option<Field>
