@@ -1,19 +1,19 @@
 -- The first token of a text.
-use Rattle.std.proofs.Common.{◌≡◌, ℕ, suc, ◌+◌, ◌<◌, ◌≤◌, true, false, cond, eqb, List, [], ◌∷◌, length, get_or, take, drop, sym, refl, ap, ◌∙◌, ⊎_elim, true≢false, zero-le, arith}
+use Rattle.std.proofs.Common.{◌≡◌, ℕ, suc, ◌<◌, ◌≤◌, true, false, cond, eqb, List, [], ◌∷◌, length, get_or, take, drop, sym, refl, ap, ◌∙◌, ⊎_elim, true≢false, zero-le, arith}
 use mathlib.Core.Bool.{false≢true}
 use Rattle.std.proofs.lemmas.Bool.Decides.{nat_tests}
 use Rattle.std.proofs.lemmas.Bool.{cond-true, cond-false, cases_Bool}
-use Rattle.std.proofs.lemmas.List.{at_drop_more, length-take-le}
+use Rattle.std.proofs.lemmas.List.{length-take-le}
 use Rattle.text.specs.declared.class.Class.{Class}
 use Rattle.text.specs.declared.class.Class.TheVariants.{Opening, Closing, Space, LineEnd, Letter, Digit, Point, Stroke, Other}
 use Rattle.text.specs.Bytes.{byte_class}
+use Rattle.std.specs.List.{prefix_len}
 use Rattle.text.specs.Text.{Token, t_word, token, in_word, grow, tokens, run, item_size, size, lines}
 
-pub run_more : (w : List ℕ) (n : ℕ) → n < length w → in_word (byte_class (get_or w n 0)) ≡ true → run (drop n w) ≡ suc (run (drop (n + 1) w))
-run_more w n h t = at_drop_more run w n 0 h ∙ cond-true (in_word (byte_class (get_or w n 0))) (suc (run (drop (n + 1) w))) 0 t
-
-pub run_stops : (w : List ℕ) (n : ℕ) → n < length w → in_word (byte_class (get_or w n 0)) ≡ false → run (drop n w) ≡ 0
-run_stops w n h t = at_drop_more run w n 0 h ∙ cond-false (in_word (byte_class (get_or w n 0))) (suc (run (drop (n + 1) w))) 0 t
+-- the run at the front is the longest prefix of bytes of words
+pub run_prefix : (w : List ℕ) → prefix_len (λ b. in_word (byte_class b)) w ≡ run w
+run_prefix [] = refl
+run_prefix (b ∷ bs) = ap (λ n. cond (in_word (byte_class b)) n 0) (omega (arith, run_prefix bs))
 
 -- a byte that stands in no word begins a token of its own, before which a word stays short
 alone : (b : ℕ) (k : Class) (ts : List Token) → in_word k ≡ false → grow b (token k [] ∷ ts) ≡ t_word (b ∷ []) ∷ token k [] ∷ ts

@@ -6,8 +6,8 @@ ghost use Rattle.text.specs.Steps.{answered};
 ghost use Rattle.text.specs.Text.{token, tokens, on_token, ending, item_size, fault, read_after, read_on, read_text};
 ghost use Rattle.text.specs.View.{reading, made_of};
 
-use crate::class::{Class, class_of};
-use crate::scan::{stands_in_word, word_len};
+use crate::class::Class;
+use crate::scan::word_len;
 use crate::state::State;
 use packet::{Bounded, Fault, Ports, ReaderCause, TextPlace};
 use policy::{Node, Policy};
@@ -33,7 +33,7 @@ impl State {
         ensures within { elim result [ Ok n ↦ (0 < n) × (n ≤ length rest.now) | Err e ↦ Unit {0} ] }
         ensures goes { (line byte : ℕ) → read_on line byte (reading self.old) (tokens rest.now) ≡ read_after line byte (reading self.new) rest.now result }
     {
-        let class = class_of(rest[0]);
+        let class = Class::from(rest[0]);
         let n = item_len(class, rest);
         self.take(class, &rest[0..n])?;
         Ok(n)
@@ -61,7 +61,7 @@ fn item_len(class: Class, rest: &[u8]) -> usize
     requires { (0 < length rest.now) × (class ≡ byte_class (slice_index rest.now 0)) }
     ensures { result ≡ item_size rest.now }
 {
-    if stands_in_word(class) {
+    if class.stands_in_word() {
         word_len(rest)
     } else {
         1

@@ -7,7 +7,7 @@ ghost use Rattle.text.specs.Steps.{answered, map_some, map_ok, part_due, closes,
 ghost use Rattle.text.specs.View.{reading, owed};
 
 use crate::due::{Due, Op, Part};
-use crate::head::{field_of, same};
+use crate::head::field_of;
 use crate::state::State;
 use crate::value::{number_of, test_of};
 use packet::{Bounded, Ports, ReaderCause};
@@ -101,14 +101,11 @@ fn head_of(kind: Kind, w: &[u8]) -> Option<Due>
 fn policy_head(w: &[u8]) -> Option<Due>
     ensures { head_due Kind.Policy w.now ≡ map_some due_of result }
 {
-    if same(w, b"send") {
-        Some(Due::First(Op::Send))
-    } else if same(w, b"both") {
-        Some(Due::First(Op::Both))
-    } else if same(w, b"keep") {
-        Some(Due::First(Op::Keep))
-    } else {
-        None
+    match w {
+        b"send" => Some(Due::First(Op::Send)),
+        b"both" => Some(Due::First(Op::Both)),
+        b"keep" => Some(Due::First(Op::Keep)),
+        _ => None,
     }
 }
 
@@ -116,21 +113,13 @@ fn policy_head(w: &[u8]) -> Option<Due>
 fn predicate_head(w: &[u8]) -> Option<Due>
     ensures { head_due Kind.Predicate w.now ≡ map_some due_of result }
 {
-    if same(w, b"any") {
-        Some(Due::Close(Node::Any))
-    } else if same(w, b"at") {
-        Some(Due::Switch)
-    } else if same(w, b"and") {
-        Some(Due::First(Op::And))
-    } else if same(w, b"or") {
-        Some(Due::First(Op::Or))
-    } else if same(w, b"not") {
-        Some(Due::First(Op::Not))
-    } else {
-        match field_of(w) {
-            Some(f) => Some(Due::Value(f)),
-            None => None,
-        }
+    match w {
+        b"any" => Some(Due::Close(Node::Any)),
+        b"at" => Some(Due::Switch),
+        b"and" => Some(Due::First(Op::And)),
+        b"or" => Some(Due::First(Op::Or)),
+        b"not" => Some(Due::First(Op::Not)),
+        _ => field_of(w).map(Due::Value),
     }
 }
 

@@ -1,20 +1,17 @@
--- A byte of a word lengthens the run, and any other ends it.
-use Rattle.std.proofs.Common.{◌≡◌, true, false, get_or, arith}
-use Rattle.std.proofs.lemmas.List.{at_drop_all}
+-- The bytes that are taken are the run at the front.
+use Rattle.std.proofs.Common.{◌∙◌, rules, tests}
+use Rattle.std.proofs.lemmas.Iterator.{YieldsList-from_slice}
+use Rattle.std.proofs.lemmas.Iterator.Consumers.{YieldsList-at, count_from_yields_List}
+use Rattle.std.proofs.lemmas.Iterator.Search.{YieldsList-from_take_while}
+use Rattle.std.proofs.lemmas.List.Folds.{length-prefix_len}
 use Rattle.text.specs.Bytes.{byte_class}
-use Rattle.text.specs.Text.{run, in_word}
-use Rattle.text.proofs.Runs.{run_more, run_stops}
+use Rattle.text.specs.Text.{in_word}
+use Rattle.text.proofs.Runs.{run_prefix}
 use Rattle.text.proofs.scan.word_len.Goals as goal
 
-pub loop-n-preserved : goal.loop-n-preserved
-loop-n-preserved c =
-    let t : in_word (byte_class (get_or c.args.w.now c.loop-n.n 0)) ≡ true = cc in
-    (omega arith, omega (arith, run_more c.args.w.now c.loop-n.n c.loop-n-test.true t))
-
-pub returns-else-stands_in_word : goal.returns-else-stands_in_word
-returns-else-stands_in_word c =
-    let t : in_word (byte_class (get_or c.args.w.now c.loop-n.n 0)) ≡ false = cc in
-    omega (arith, run_stops c.args.w.now c.loop-n.n c.loop-n-test.true t)
-
-pub returns-after-loop-n : goal.returns-after-loop-n
-returns-after-loop-n c = omega (arith, at_drop_all run c.args.w.now c.loop-n.n c.loop-n-test.false)
+pub returns : goal.returns
+returns c =
+    count_from_yields_List c.take_while.result c.count.result c.count.ensures.ran
+    (YieldsList-from_take_while _ (λ b. in_word (byte_class b)) (YieldsList-at c.take_while.ensures.source (YieldsList-from_slice c.args.text.now cc))
+    c.take_while.ensures.closure c.take_while.ensures.done (λ x b q k. search (rules, tests)))
+    ∙ (length-prefix_len (λ b. in_word (byte_class b)) c.args.text.now ∙ run_prefix c.args.text.now)

@@ -12,10 +12,10 @@ slice_bounds-take-end c = omega (arith, (item_within c.args.rest.now c.requires)
 pub returns-in_err-take : goal.returns-in_err-take
 returns-in_err-take c =
     let p = err_from_is_err_and c.from_residual.result c.from_residual.ensures.1 in
-    rw (p.1, p.2) (record { within = tt; goes = λ line byte. goes_on line byte (reading c.args.self.now) c.args.rest.now c.class_of-class.result c.item_len-n.result (Err c.in_err-take.field-0.0) c.requires c.class_of-class.ensures c.item_len-n.ensures c.in_err-take.ensures })
+    rw (p.1, p.2) (record { within = tt; goes = λ line byte. goes_on line byte (reading c.args.self.now) c.args.rest.now c.from-class.result c.item_len-n.result (Err c.in_err-take.field-0.0) c.requires c.from-class.ensures c.item_len-n.ensures c.in_err-take.ensures })
 
 pub returns : goal.returns
 returns c = record {
   within = (omega (arith, (item_within c.args.rest.now c.requires).0), omega (arith, (item_within c.args.rest.now c.requires).1));
-  goes = λ line byte. goes_on line byte (reading c.args.self.now) c.args.rest.now c.class_of-class.result c.item_len-n.result (Ok (reading c.take.new.self)) c.requires c.class_of-class.ensures c.item_len-n.ensures c.in_ok-take.ensures;
+  goes = λ line byte. goes_on line byte (reading c.args.self.now) c.args.rest.now c.from-class.result c.item_len-n.result (Ok (reading c.take.new.self)) c.requires c.from-class.ensures c.item_len-n.ensures c.in_ok-take.ensures;
 }
