@@ -17,7 +17,7 @@ fn put<T: Copy, const N: usize>(list: &mut Bounded<T, N>, item: T)
     requires { length (items_of list.old) < N }
     ensures { items_of list.new ≡ items_of list.old ++ item ∷ [] }
 {
-    list.push(item);
+    list.push(item).unwrap();
 }
 
 /// Takes the newest item off a list that has one.

@@ -50,8 +50,8 @@ impl State {
             return Ok(self.nodes);
         }
         let mut nodes = Bounded::new(Node::Any);
-        nodes.push(Node::Any);
-        nodes.push(Node::Send(Ports::none()));
+        nodes.push(Node::Any).unwrap();
+        nodes.push(Node::Send(Ports::none())).unwrap();
         Ok(nodes)
     }
 }

@@ -23,7 +23,7 @@ fn take_parts(kinds: &mut Bounded<Kind, 64>, node: &Node) -> bool
     }
     let rest = kinds.len() - parts.len();
     kinds.truncate(rest);
-    kinds.push(node.kind());
+    kinds.push(node.kind()).unwrap();
     true
 }
 
@@ -60,8 +60,8 @@ impl Policy {
         ensures { tree_of result ≡ empty_tree }
     {
         let mut nodes = Bounded::new(Node::Any);
-        nodes.push(Node::Any);
-        nodes.push(Node::Send(Ports::none()));
+        nodes.push(Node::Any).unwrap();
+        nodes.push(Node::Send(Ports::none())).unwrap();
         Policy::of(nodes)
     }
 
