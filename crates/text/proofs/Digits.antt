@@ -1,16 +1,13 @@
 -- Digits of a base, read one by one.
 use Rattle.std.proofs.Common.{◌≡◌, ℕ, ◌+◌, ◌*◌, ◌^◌, ◌<◌, ◌≤◌, Bool, true, false, cond, leb, List, [], ◌∷◌, length, Some, None, Option, sym, refl, ap, ◌∙◌, subst, pow-add, arith}
-use Rattle.std.proofs.lemmas.Bool.{cond-true, cond-false, lt-leb, le-leb, leb-true, leb-false}
+use Rattle.std.proofs.lemmas.Bool.{cond-true, lt-leb, le-leb, leb-true, leb-false}
 use Rattle.std.proofs.lemmas.Bool.Decides.{nat_tests}
 use Rattle.std.proofs.Math.Nat.{le-mul_of_pos_right}
-use Rattle.text.specs.Values.{and_some, at_most, digit, digit_in, digits, nibble}
+use Rattle.text.specs.Values.{and_some, at_most, digit_in, digits, nibble}
 use Rattle.text.proofs.Clash.{none_some}
 use Rattle.text.proofs.Trying.{tries}
 
--- the digits of the two bases in use
-pub digit_ten : (b : ℕ) → digit_in 10 b ≡ digit b
-digit_ten b = grind (arith, nat_tests)
-
+-- the digits of base 16
 pub digit_sixteen : (b : ℕ) → digit_in 16 b ≡ nibble b
 digit_sixteen b = grind (arith, nat_tests)
 
@@ -54,15 +51,6 @@ module _ (limit base : ℕ) (some : 0 < base) where
 pub at_most_kept : (limit : ℕ) (o : Option ℕ) → ((n : ℕ) → o ≡ Some n → n ≤ limit) → at_most limit o ≡ o
 at_most_kept limit None h = refl
 at_most_kept limit (Some n) h = cond-true (leb n limit) (Some n) None (le-leb n limit (h n refl))
-
--- of two limits the lower decides
-pub at_most_lower : (limit top : ℕ) (o : Option ℕ) → limit ≤ top → at_most limit (at_most top o) ≡ at_most limit o
-at_most_lower limit top None h = refl
-at_most_lower limit top (Some n) h = go (leb n top) refl
-  where
-    go : (t : Bool) → leb n top ≡ t → at_most limit (cond t (Some n) None) ≡ at_most limit (Some n)
-    go true e = refl
-    go false e = sym (cond-false (leb n limit) (Some n) None (lt-leb n limit (omega (arith, leb-false n top e))))
 
 nibble_small : (b d : ℕ) → nibble b ≡ Some d → d < 16
 nibble_small b d e = grind (arith, nat_tests)

@@ -22,7 +22,7 @@ fn decimal_of(word: &[u8], limit: u16) -> Option<u16>
 {
     u16::try_from(digits_of(word, 10)?)
         .ok()
-        .filter(|n| *n <= limit)
+        .filter(|number| *number <= limit)
 }
 
 /// A digit of a base: 0 to 9, then small letters from a on.
@@ -63,7 +63,7 @@ fn cut_at(word: &[u8], mark: u8) -> Option<(&[u8], &[u8])>
     Some((&word[..at], &word[at + 1..]))
 }
 
-/// The number of a decimal word, of 8 bits.
+/// What `number_of` gives, at a limit of 8 bits.
 fn small_number_of(word: &[u8], limit: u8) -> Option<u8>
     ensures is { result ≡ numeral limit word.now }
     ensures small { IfSome result (λ n. n ≤ limit) }

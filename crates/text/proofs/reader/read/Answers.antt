@@ -8,7 +8,6 @@ use Rattle.policy.specs.Roots.{shapes_of}
 use Rattle.policy.specs.Shapes.{Shape}
 use Rattle.policy.specs.Trees.{stack_of, only_policy}
 use Rattle.policy.specs.declared.policy.Policy.{Policy}
-use Rattle.text.specs.Text.{read_text}
 use Rattle.text.specs.View.{shapes_in}
 use Rattle.text.proofs.Answering.{makes_policy, reads_as, refused, writes_nothing}
 use Rattle.text.proofs.reader.read.Goals as goal
@@ -29,9 +28,8 @@ pub unwrap-requires : goal.unwrap-requires
 unwrap-requires c =
     let ns = shapes_in c.in_ok-nodes.nodes in made ns c.from_nodes.result c.from_nodes.ensures (makes_policy c.args.text.now ns (sym c.in_ok-nodes.ensures))
 
-pub returns : goal.returns
-returns c =
+pub returns-clause-grammar : goal.returns-clause-grammar
+returns-clause-grammar c =
     let policy = c.unwrap.result in
     let nodes : shapes_of policy ≡ shapes_in c.in_ok-nodes.nodes = subst (Finished (shapes_in c.in_ok-nodes.nodes)) c.unwrap.ensures c.from_nodes.ensures in
-    let is : read_text c.args.text.now ≡ Ok (shapes_of policy) = sym c.in_ok-nodes.ensures ∙ ap Ok (sym nodes) in
-    record { answer = is; grammar = reads_as c.args.text.now policy is }
+    reads_as c.args.text.now policy (sym c.in_ok-nodes.ensures ∙ ap Ok (sym nodes))
