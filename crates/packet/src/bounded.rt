@@ -8,7 +8,8 @@ mod list;
 #[derive(Clone, Copy, PartialEq, Eq, Debug)]
 pub struct Full;
 
-/// A list of at most `N` items, kept in an array: nothing is allocated, which the library promises, so it is no `Vec`.
+/// A list of at most `N` items, kept in an array and a length: the library promises to allocate nothing, so it is no
+/// `Vec`, and nodes and ports are copied, so it is no `ArrayVec`.
 #[derive(Copy)]
 pub struct Bounded<T, const N: usize> {
     items: [T; N],

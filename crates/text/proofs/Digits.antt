@@ -1,47 +1,71 @@
--- The steps of a loop over digits.
-use Rattle.std.proofs.Common.{◌≡◌, ℕ, ◌+◌, ◌*◌, ◌^◌, ◌<◌, ◌≤◌, cond, List, [], ◌∷◌, length, get_or, drop, Some, None, Option, sym, refl, ap, ◌∙◌, arith, pow-add}
-use native.Mathlib.Nat.{pow-le-pow_right}
-use Rattle.std.proofs.lemmas.List.{at_drop_more}
-use Rattle.std.proofs.lemmas.Bool.{lt-leb}
+-- Digits of a base, read one by one.
+use Rattle.std.proofs.Common.{◌≡◌, ℕ, ◌+◌, ◌*◌, ◌^◌, ◌<◌, ◌≤◌, Bool, true, false, cond, leb, List, [], ◌∷◌, length, Some, None, Option, sym, refl, ap, ◌∙◌, subst, pow-add, arith}
+use Rattle.std.proofs.lemmas.Bool.{cond-true, lt-leb, le-leb, leb-true, leb-false}
 use Rattle.std.proofs.lemmas.Bool.Decides.{nat_tests}
-use Rattle.text.specs.Values.{and_some, at_most, decimal, digit, digits, nibble, numeral}
+use Rattle.std.proofs.Math.Nat.{le-mul_of_pos_right}
+use Rattle.text.specs.Values.{and_some, at_most, digit_in, digits, nibble}
 use Rattle.text.proofs.Clash.{none_some}
+use Rattle.text.proofs.Trying.{tries}
 
-module _ (base : ℕ) (one : ℕ → Option ℕ) (n i : ℕ) (w : List ℕ) (within : i < length w) where
-  -- a digit reads on, and any other byte ends it
-  pub digits_more : (d : ℕ) → one (get_or w i 0) ≡ Some d → digits base one n (drop i w) ≡ digits base one (n * base + d) (drop (i + 1) w)
-  digits_more d e = at_drop_more (digits base one n) w i 0 within ∙ ap (λ o. and_some o (λ x. digits base one (n * base + x) (drop (i + 1) w))) e
+-- the digits of base 16
+pub digit_sixteen : (b : ℕ) → digit_in 16 b ≡ nibble b
+digit_sixteen b = grind (arith, nat_tests)
 
-  pub digits_bad : one (get_or w i 0) ≡ None → digits base one n (drop i w) ≡ None
-  digits_bad e = at_drop_more (digits base one n) w i 0 within ∙ ap (λ o. and_some o (λ x. digits base one (n * base + x) (drop (i + 1) w))) e
+-- the same digits give the same number
+pub digits_same : (base : ℕ) (one two : ℕ → Option ℕ) → ((b : ℕ) → one b ≡ two b) → (n : ℕ) (w : List ℕ) → digits base one n w ≡ digits base two n w
+digits_same base one two e n [] = refl
+digits_same base one two e n (b ∷ bs) = ap (λ o. and_some o (λ d. digits base one (n * base + d) bs)) (e b) ∙ go (two b) (λ d. digits_same base one two e (n * base + d) bs)
+  where
+    go : (o : Option ℕ) → ((d : ℕ) → digits base one (n * base + d) bs ≡ digits base two (n * base + d) bs) → and_some o (λ d. digits base one (n * base + d) bs) ≡ and_some o (λ d. digits base two (n * base + d) bs)
+    go None more = refl
+    go (Some d) more = more d
 
-pub digit_small : (b d : ℕ) → digit b ≡ Some d → d < 10
-digit_small b d e = grind (arith, nat_tests)
+-- what one digit more makes of a number, unless it is past the limit
+abbrev pub next : ℕ → ℕ → ℕ → ℕ → Option ℕ
+next limit base n b = and_some (digit_in base b) (λ d. at_most limit (Some (n * base + d)))
 
-pub nibble_small : (b d : ℕ) → nibble b ≡ Some d → d < 16
+module _ (limit base : ℕ) (some : 0 < base) where
+  -- digits that are past the limit already stay past it
+  pub past_limit : (one : ℕ → Option ℕ) (n : ℕ) (bs : List ℕ) → limit < n → at_most limit (digits base one n bs) ≡ None
+  past_limit one n [] h = ap (λ t. cond t (Some n) None) (lt-leb n limit h)
+  past_limit one n (b ∷ bs) h = go (one b) (λ d. past_limit one (n * base + d) bs (omega (arith, le-mul_of_pos_right n some)))
+    where
+      go : (o : Option ℕ) → ((d : ℕ) → at_most limit (digits base one (n * base + d) bs) ≡ None) → at_most limit (and_some o (λ d. digits base one (n * base + d) bs)) ≡ None
+      go None later = refl
+      go (Some d) later = later d
+
+  -- a limit at each digit is a limit at the end
+  pub tries_digits : (n : ℕ) (w : List ℕ) → n ≤ limit → tries (next limit base) n w ≡ at_most limit (digits base (digit_in base) n w)
+  tries_digits n [] h = sym (cond-true (leb n limit) (Some n) None (le-leb n limit h))
+  tries_digits n (b ∷ bs) h = go (digit_in base b) (λ m. rest m (λ k. tries_digits m bs k) (leb m limit) refl)
+    where
+      rest : (m : ℕ) → (m ≤ limit → tries (next limit base) m bs ≡ at_most limit (digits base (digit_in base) m bs)) → (t : Bool) → leb m limit ≡ t → and_some (cond t (Some m) None) (λ k. tries (next limit base) k bs) ≡ at_most limit (digits base (digit_in base) m bs)
+      rest m more true e = more (leb-true m limit e)
+      rest m more false e = sym (past_limit (digit_in base) m bs (leb-false m limit e))
+
+      go : (o : Option ℕ) → ((m : ℕ) → and_some (at_most limit (Some m)) (λ k. tries (next limit base) k bs) ≡ at_most limit (digits base (digit_in base) m bs)) → and_some (and_some o (λ d. at_most limit (Some (n * base + d)))) (λ k. tries (next limit base) k bs) ≡ at_most limit (and_some o (λ d. digits base (digit_in base) (n * base + d) bs))
+      go None more = refl
+      go (Some d) more = more (n * base + d)
+
+-- a limit that is kept changes nothing
+pub at_most_kept : (limit : ℕ) (o : Option ℕ) → ((n : ℕ) → o ≡ Some n → n ≤ limit) → at_most limit o ≡ o
+at_most_kept limit None h = refl
+at_most_kept limit (Some n) h = cond-true (leb n limit) (Some n) None (le-leb n limit (h n refl))
+
+nibble_small : (b d : ℕ) → nibble b ≡ Some d → d < 16
 nibble_small b d e = grind (arith, nat_tests)
 
--- digits that are past the limit already stay past it
-pub past_limit : (limit n : ℕ) (bs : List ℕ) → limit < n → at_most limit (digits 10 digit n bs) ≡ None
-past_limit limit n [] h = ap (λ t. cond t (Some n) None) (lt-leb n limit h)
-past_limit limit n (b ∷ bs) h = go (digit b) (λ d. past_limit limit (n * 10 + d) bs (omega arith))
+-- a number of k digits of base 16, and as many more
+hex_small : (n k : ℕ) (w : List ℕ) (m : ℕ) → n < 16 ^ k → digits 16 nibble n w ≡ Some m → m < 16 ^ (k + length w)
+hex_small n k [] m h e = let q : n ≡ m = cc in let l : k + 0 ≡ k = omega arith in subst (λ i. m < 16 ^ i) (sym l) (omega arith)
+hex_small n k (b ∷ bs) m h e = go (nibble b) refl e (λ d s p. hex_small (n * 16 + d) (k + 1) bs m (omega (arith, pow-add 16 k 1)) p)
   where
-    go : (o : Option ℕ) → ((d : ℕ) → at_most limit (digits 10 digit (n * 10 + d) bs) ≡ None) → at_most limit (and_some o (λ d. digits 10 digit (n * 10 + d) bs)) ≡ None
-    go None later = refl
-    go (Some d) later = later d
+    go : (o : Option ℕ) → nibble b ≡ o → and_some o (λ d. digits 16 nibble (n * 16 + d) bs) ≡ Some m → ((d : ℕ) → d < 16 → digits 16 nibble (n * 16 + d) bs ≡ Some m → m < 16 ^ (k + 1 + length bs)) → m < 16 ^ (k + length (b ∷ bs))
+    go None q p more = absurd (none_some p)
+    go (Some d) q p more = let l : k + length (b ∷ bs) ≡ k + 1 + length bs = omega arith in subst (λ i. m < 16 ^ i) (sym l) (more d (nibble_small b d q) p)
 
-pub within_limit : (limit : ℕ) (w : List ℕ) (n : ℕ) → Some n ≡ numeral limit w → n ≤ limit
-within_limit limit w n e = go (decimal w) e
-  where
-    go : (o : Option ℕ) → Some n ≡ at_most limit o → n ≤ limit
-    go None p = absurd (none_some (sym p))
-    go (Some m) p = grind (arith, nat_tests)
-
--- a number of i digits of base 16
-pub hex_more : (n d i : ℕ) → n < 16 ^ i → d < 16 → n * 16 + d < 16 ^ (i + 1)
-hex_more n d i h k = omega (arith, pow-add 16 i 1)
-
-pub hex_small : (n i : ℕ) → n < 16 ^ i → i ≤ 12 → n < 2 ^ 48
-hex_small n i h k =
-    let z : 0 < 16 = omega arith in
-    let p : 16 ^ i ≤ 16 ^ 12 = pow-le-pow_right z k in omega arith
+-- twelve digits of base 16 have 48 bits
+pub hex_fits : (w : List ℕ) (m : ℕ) → length w ≡ 12 → digits 16 nibble 0 w ≡ Some m → m ≤ 18446744073709551615
+hex_fits w m l e =
+    let k : 0 + length w ≡ 12 = omega arith in
+    let h : m < 16 ^ 12 = subst (λ i. m < 16 ^ i) k (hex_small 0 0 w m (omega arith) e) in omega arith

@@ -1,31 +1,22 @@
--- Reading on past the first token, and the end of the text.
-use Rattle.std.proofs.Common.{◌≡◌, ℕ, ◌+◌, ◌-◌, ◌<◌, ◌≤◌, true, false, cond, eqb, List, [], ◌∷◌, reverse, length, get_or, take, drop, Ok, Err, Result, sym, refl, ap, ◌∙◌, add-zero, arith}
-use native.Mathlib.Nat.{sub-zero}
-use Rattle.std.proofs.lemmas.List.{take_rest, get_or-drop, drop-drop, at_drop_all}
+-- Reading on past the first item, and the end of the text.
+use Rattle.std.proofs.Common.{◌≡◌, ℕ, ◌+◌, ◌<◌, ◌≤◌, true, false, List, [], ◌∷◌, ◌++◌, reverse, length, get_or, Ok, Err, Result, sym, refl, ap, ◌∙◌, arith}
+use Rattle.std.specs.List.{IsChunkByPrefix}
+use Rattle.std.specs.Result.{IsErrAnd, MatchResult}
 use Rattle.std.proofs.lemmas.Bool.{cond-true, cond-false}
-use Rattle.text.specs.declared.class.Class.{Class}
+use Rattle.packet.specs.declared.fault.Fault.{Fault}
 use Rattle.packet.specs.declared.fault.ReaderCause.{ReaderCause}
 use Rattle.packet.specs.declared.fault.ReaderCause.TheVariants.{Word}
 use Rattle.text.specs.Bytes.{byte_class}
 use Rattle.policy.specs.Shapes.Shape.{n_any, n_send}
 use Rattle.text.specs.Dues.{Due}
-use Rattle.text.specs.Steps.{Reading, and_then}
-use Rattle.text.specs.Text.{Token, token, tokens, on_token, ending, ending_on, at_place, read_on, size, item_size, item_lines, read_after, fault}
-use Rattle.text.proofs.Runs.{first_token, size_first, lines_first}
-
-pub goes_on : (line byte : ℕ) (s : Reading) (bs : List ℕ) (k : Class) (n : ℕ) (r : Result Reading ReaderCause) →
-    0 < length bs → k ≡ byte_class (get_or bs 0 0) → n ≡ item_size bs → on_token s (token k (take (n - 0) bs)) ≡ r →
-    read_on line byte s (tokens bs) ≡ and_then (at_place line byte r) (λ q. read_on (line + item_lines bs) (byte + n) q (tokens (drop n bs)))
-goes_on line byte s bs k n r h e f g =
-    let m : ℕ = item_size bs in
-    let t : Token = token (byte_class (get_or bs 0 0)) (take m bs) in
-    ap (read_on line byte s) (first_token bs h)
-    ∙ (ap (λ l. and_then (at_place line byte (on_token s t)) (λ q. read_on (line + l) (byte + size t) q (tokens (drop m bs)))) (lines_first (get_or bs 0 0) (take m bs))
-    ∙ (ap (λ z. and_then (at_place line byte (on_token s t)) (λ q. read_on (line + item_lines bs) (byte + z) q (tokens (drop m bs)))) (size_first bs h)
-    ∙ (ap (λ j. and_then (at_place line byte (on_token s (token (byte_class (get_or bs 0 0)) (take j bs)))) (λ q. read_on (line + item_lines bs) (byte + j) q (tokens (drop j bs)))) (sym f)
-    ∙ (ap (λ i. and_then (at_place line byte (on_token s (token (byte_class (get_or bs 0 0)) (take i bs)))) (λ q. read_on (line + item_lines bs) (byte + n) q (tokens (drop n bs)))) (sym (sub-zero n))
-    ∙ (ap (λ i. and_then (at_place line byte (on_token s (token i (take (n - 0) bs)))) (λ q. read_on (line + item_lines bs) (byte + n) q (tokens (drop n bs)))) (sym e)
-    ∙ ap (λ x. and_then (at_place line byte x) (λ q. read_on (line + item_lines bs) (byte + n) q (tokens (drop n bs)))) g)))))
+use Rattle.text.specs.Steps.{Reading, and_then, answered}
+use Rattle.text.specs.Text.{Token, token, tokens, on_token, ending, ending_on, at_place, read_on, size, item_lines, fault}
+use Rattle.packet.specs.declared.bounded.Bounded.{Bounded}
+use Rattle.policy.specs.declared.node.Node.{Node}
+use Rattle.text.specs.View.{made_of}
+use Rattle.std.proofs.lemmas.Bool.Decides.{nat_tests}
+use Rattle.text.proofs.Clash.{err_ok}
+use Rattle.text.proofs.Runs.{chunk_token, lines_first, together}
 
 ends_held : (s : Reading) (ds : List Due) → 0 < length ds → ending_on s ds ≡ Err Word
 ends_held s [] h = absurd (omega arith)
@@ -43,23 +34,42 @@ pub finish_empty : (s : Reading) → s.brackets ≡ [] → s.joins ≡ false →
 unfolding ending
 finish_empty s e j = ap (ending_on s) e ∙ ap Ok (cond-false s.joins (reverse s.nodes) (n_any ∷ n_send [] ∷ []) j)
 
-module _ (text : List ℕ) (line byte : ℕ) (s : Reading) where
-  -- the rest of the text from byte on, as `&text[byte..]` has it
-  abbrev rest : List ℕ
-  rest = take (length text - byte) (drop byte text)
+-- what a call answers, as a fault at the place where it was made
+pub placed : {A : Type 0} (line byte : ℕ) (r : Result A ReaderCause) (q : Result A Fault) (P : ReaderCause → Fault → Type 0) → MatchResult r (λ x. q ≡ Ok x) (λ e. IsErrAnd q (P e)) → ((e : ReaderCause) (f : Fault) → P e f → f ≡ fault line byte e) → q ≡ at_place line byte r
+placed line byte (Ok x) q P h k = h
+placed line byte (Err e) (Ok x) P h k = absurd h
+placed line byte (Err e) (Err f) P h k = ap Err (k e f h)
 
-  lines_here : item_lines rest ≡ cond (eqb (get_or text byte 0) 10) 1 0
-  lines_here = ap item_lines (take_rest text byte) ∙ ap (λ x. cond (eqb x 10) 1 0) (get_or-drop byte text 0 0 ∙ ap (λ i. get_or text i 0) (add-zero byte))
+-- nodes that are handed on
+pub made_placed : (line byte : ℕ) (r : Result (Bounded Node 64) ReaderCause) → made_of (at_place line byte r) ≡ at_place line byte (made_of r)
+made_placed line byte (Ok b) = refl
+made_placed line byte (Err e) = refl
 
-  pub read_past : (n line' : ℕ) (s' : Reading) → read_on line byte s (tokens rest) ≡ read_after line byte s' rest (Ok n) → line' ≡ line + cond (eqb (get_or text byte 0) 10) 1 0 →
-      read_on line byte s (tokens (drop byte text)) ≡ read_on line' (byte + n) s' (tokens (drop (byte + n) text))
-  read_past n line' s' e l =
-      ap (λ b. read_on line byte s (tokens b)) (sym (take_rest text byte)) ∙ (e
-      ∙ (ap (λ k. read_on k (byte + n) s' (tokens (drop n rest))) (ap (λ k. line + k) lines_here ∙ sym l)
-      ∙ ap (λ b. read_on line' (byte + n) s' (tokens b)) (ap (drop n) (take_rest text byte) ∙ drop-drop n byte text)))
+pub one_line : (w : List ℕ) → item_lines w ≤ 1
+one_line w = grind (arith, nat_tests)
 
-  pub read_refused : (e : ReaderCause) (s' : Reading) → read_on line byte s (tokens rest) ≡ read_after line byte s' rest (Err e) → read_on line byte s (tokens (drop byte text)) ≡ Err (fault line byte e)
-  read_refused e s' h = ap (λ b. read_on line byte s (tokens b)) (sym (take_rest text byte)) ∙ h
+module _ (line byte : ℕ) (s t : Reading) (bs w cs : List ℕ) (cut : bs ≡ w ++ cs) (some : 0 < length w) (chunk : IsChunkByPrefix together bs (length w))
+    {U : Type 0} (u : Result U ReaderCause) (takes : on_token s (token (byte_class (get_or w 0 0)) w) ≡ answered u t) where
+  -- the first item of what is left, and what follows it
+  goes : read_on line byte s (tokens bs) ≡ and_then (at_place line byte (answered u t)) (λ r. read_on (line + item_lines w) (byte + length w) r (tokens cs))
+  goes =
+      let c = chunk_token bs w cs cut some chunk in
+      let item : Token = token (byte_class (get_or w 0 0)) w in
+      ap (read_on line byte s) c.0
+      ∙ (ap (λ k. and_then (at_place line byte (on_token s item)) (λ r. read_on (line + k) (byte + size item) r (tokens cs))) (lines_first (get_or w 0 0) w)
+      ∙ (ap (λ k. and_then (at_place line byte (on_token s item)) (λ r. read_on (line + item_lines w) (byte + k) r (tokens cs))) c.1
+      ∙ ap (λ x. and_then (at_place line byte x) (λ r. read_on (line + item_lines w) (byte + length w) r (tokens cs))) takes))
 
-  pub read_end : length text ≤ byte → read_on line byte s (tokens (drop byte text)) ≡ at_place line byte (ending s)
-  read_end h = at_drop_all (λ b. read_on line byte s (tokens b)) text byte h
+  pub item_read : (x : U) → at_place line byte u ≡ Ok x → read_on line byte s (tokens bs) ≡ read_on (line + item_lines w) (byte + length w) t (tokens cs)
+  item_read x e = goes ∙ go u e
+    where
+      go : (v : Result U ReaderCause) → at_place line byte v ≡ Ok x → and_then (at_place line byte (answered v t)) (λ r. read_on (line + item_lines w) (byte + length w) r (tokens cs)) ≡ read_on (line + item_lines w) (byte + length w) t (tokens cs)
+      go (Ok y) p = refl
+      go (Err y) p = absurd (err_ok p)
+
+  pub item_refused : (f : Fault) → at_place line byte u ≡ Err f → read_on line byte s (tokens bs) ≡ Err f
+  item_refused f e = goes ∙ go u e
+    where
+      go : (v : Result U ReaderCause) → at_place line byte v ≡ Err f → and_then (at_place line byte (answered v t)) (λ r. read_on (line + item_lines w) (byte + length w) r (tokens cs)) ≡ Err f
+      go (Ok y) p = absurd (err_ok (sym p))
+      go (Err y) p = let q : fault line byte y ≡ f = cc in ap Err q

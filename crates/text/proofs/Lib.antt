@@ -14,3 +14,4 @@ pub mod Sound
 pub mod Spaces
 pub mod Stack
 pub mod Stopping
+pub mod Trying

@@ -1,9 +1,10 @@
 -- A bounded list as a stack: a push puts its item on top, a pop takes the top off.
-use Rattle.std.proofs.Common.{◌≡◌, ℕ, ◌<◌, Bool, List, [], ◌∷◌, ◌++◌, map, reverse, length, Some, None, refl, ap, ◌∙◌, arith}
+use Rattle.std.proofs.Common.{◌≡◌, ℕ, ◌<◌, Result, List, [], ◌∷◌, ◌++◌, map, reverse, length, Some, None, refl, ap, ◌∙◌, arith}
 use mathlib.Core.List.{reverse_aux}
 use Rattle.std.proofs.lemmas.List.{reverse-append, reverse-reverse, length-reverse}
 use Rattle.packet.specs.Items.{items_of, Pushed, Popped}
 use Rattle.packet.specs.declared.bounded.Bounded.{Bounded}
+use Rattle.packet.specs.declared.bounded.Full.{Full}
 use Rattle.packet.proofs.Pushes.{items_fit, push_goes, pushed_length}
 use Rattle.text.specs.Newest.{newest}
 
@@ -20,7 +21,7 @@ module _ {T : Type 0} {N : ℕ} where
   unfolding newest
   newest_one b d x e = ap reverse e ∙ reverse-append (items_of b) (x ∷ [])
 
-  pub newest_push : (b d : Bounded T N) (x : T) (r : Bool) → Pushed (items_of b) x N r (items_of d) → length (items_of b) < N → newest d ≡ x ∷ newest b
+  pub newest_push : {U : Type 0} (b d : Bounded T N) (x : T) (r : Result U Full) → Pushed (items_of b) x N r (items_of d) → length (items_of b) < N → newest d ≡ x ∷ newest b
   newest_push b d x r p h = newest_one b d x (push_goes (items_of b) (items_of d) x N r p h)
 
   pub newest_pop : (b d : Bounded T N) (x : T) → Popped (items_of b) (Some x) (items_of d) → newest b ≡ x ∷ newest d

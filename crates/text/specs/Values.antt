@@ -1,5 +1,5 @@
 -- Numbers, addresses and the tests of fields, as words write them.
-use Rattle.std.specs.Prelude.{ℕ, ◌+◌, ◌-◌, ◌*◌, ◌%◌, ◌^◌, cond, List, [], ◌∷◌, length, Some, None, Option, ◌==◌, nat_le}
+use Rattle.std.specs.Prelude.{ℕ, ◌+◌, ◌-◌, ◌*◌, ◌%◌, ◌^◌, cond, List, [], ◌∷◌, length, Some, None, Option, ◌==◌, nat_le, nat_lt}
 use Rattle.packet.specs.Fields.{width}
 use Rattle.packet.specs.PortLists.{is_port}
 use Rattle.packet.specs.Tests.{tested}
@@ -19,6 +19,13 @@ digit b = cond (between 48 57 b) (Some (b - 48)) None
 -- a digit 0 to 9 or a to f
 abbrev pub nibble : ℕ → Option ℕ
 nibble b = cond (between 97 102 b) (Some (b - 87)) (digit b)
+
+-- a digit of any base of at most 36: 0 to 9, then small letters from a on
+abbrev pub below : ℕ → ℕ → Option ℕ
+below base d = cond (nat_lt d base) (Some d) None
+
+abbrev pub digit_in : ℕ → ℕ → Option ℕ
+digit_in base b = cond (between 97 122 b) (below base (b - 87)) (cond (between 48 57 b) (below base (b - 48)) None)
 
 -- digits of a base read on from a value n, or none where another byte stands among them
 abbrev pub digits : ℕ → (ℕ → Option ℕ) → ℕ → List ℕ → Option ℕ

@@ -5,7 +5,6 @@ mod class;
 mod due;
 mod head;
 mod reader;
-mod scan;
 mod state;
 mod step;
 #[cfg(test)]

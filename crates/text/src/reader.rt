@@ -1,23 +1,23 @@
 //! Reading a policy text.
-ghost use Rattle.std.specs.Prelude.{◌≡◌, ℕ, ◌<◌, ◌≤◌, length, Ok, Err, slice_index};
+ghost use Rattle.std.specs.Prelude.{◌≡◌, ◌+◌, ◌-◌, ◌^◌, ◌<◌, ◌&&◌, length, slice_index};
 ghost use Rattle.text.specs.Bytes.{byte_class};
 ghost use Rattle.text.specs.Reads.{Answer, Grammatical};
 ghost use Rattle.text.specs.Steps.{answered};
-ghost use Rattle.text.specs.Text.{token, tokens, on_token, ending, item_size, fault, read_after, read_on, read_text};
+ghost use Rattle.text.specs.Text.{in_word, token, on_token, ending, item_lines, read_text};
 ghost use Rattle.text.specs.View.{reading, made_of};
 
-use crate::class::{Class, class_of};
-use crate::scan::{stands_in_word, word_len};
+use crate::class::Class;
 use crate::state::State;
 use packet::{Bounded, Fault, Ports, ReaderCause, TextPlace};
 use policy::{Node, Policy};
 
 impl State {
     /// One item of the text, by the class of its first byte.
-    fn take(&mut self, class: Class, item: &[u8]) -> Result<(), ReaderCause>
-        ensures { on_token (reading self.old) (token class item.now) ≡ answered result (reading self.new) }
+    fn take(&mut self, item: &[u8]) -> Result<(), ReaderCause>
+        requires { 0 < length item.now }
+        ensures { on_token (reading self.old) (token (byte_class (slice_index item.now 0)) item.now) ≡ answered result (reading self.new) }
     {
-        match class {
+        match Class::from(item[0]) {
             Class::Opening => self.open(),
             Class::Closing => self.close(),
             Class::Space => Ok(()),
@@ -25,18 +25,6 @@ impl State {
             Class::Letter | Class::Digit | Class::Point | Class::Stroke => self.word(item),
             Class::Other => Err(ReaderCause::Byte),
         }
-    }
-
-    /// The first item of what is left of the text; answers its length.
-    fn next(&mut self, rest: &[u8]) -> Result<usize, ReaderCause>
-        requires { 0 < length rest.now }
-        ensures within { elim result [ Ok n ↦ (0 < n) × (n ≤ length rest.now) | Err e ↦ Unit {0} ] }
-        ensures goes { (line byte : ℕ) → read_on line byte (reading self.old) (tokens rest.now) ≡ read_after line byte (reading self.new) rest.now result }
-    {
-        let class = class_of(rest[0]);
-        let n = item_len(class, rest);
-        self.take(class, &rest[0..n])?;
-        Ok(n)
     }
 
     /// The nodes, at the end of the text.
@@ -50,31 +38,33 @@ impl State {
             return Ok(self.nodes);
         }
         let mut nodes = Bounded::new(Node::Any);
-        nodes.push(Node::Any);
-        nodes.push(Node::Send(Ports::none()));
+        nodes.push(Node::Any).unwrap();
+        nodes.push(Node::Send(Ports::none())).unwrap();
         Ok(nodes)
     }
 }
 
-/// How many bytes the first item has.
-fn item_len(class: Class, rest: &[u8]) -> usize
-    requires { (0 < length rest.now) × (class ≡ byte_class (slice_index rest.now 0)) }
-    ensures { result ≡ item_size rest.now }
+/// Whether two bytes side by side stand in one word.
+fn in_one_word(a: &u8, b: &u8) -> bool
+    ensures { result ≡ (in_word (byte_class a.now) && in_word (byte_class b.now)) }
 {
-    if stands_in_word(class) {
-        word_len(rest)
-    } else {
-        1
-    }
+    Class::from(*a).stands_in_word() && Class::from(*b).stands_in_word()
 }
 
-/// The fault of an item that begins there.
-fn fault_at(cause: ReaderCause, line: usize, byte: usize) -> Fault
-    ensures { result ≡ fault line byte cause }
+/// The place after an item that begins there.
+fn past(place: TextPlace, item: &[u8]) -> TextPlace
+    requires some { 0 < length item.now }
+    requires lines_fit { place.line < 2 ^ 64 - 1 }
+    requires bytes_fit { place.byte + length item.now < 2 ^ 64 }
+    ensures { result ≡ record { line = place.line + item_lines item.now; byte = place.byte + length item.now } }
 {
-    Fault::Reader {
-        cause,
-        place: TextPlace { line, byte },
+    TextPlace {
+        line: if item[0] == b'\n' {
+            place.line + 1
+        } else {
+            place.line
+        },
+        byte: place.byte + item.len(),
     }
 }
 
@@ -83,23 +73,16 @@ fn nodes_of(text: &[u8]) -> Result<Bounded<Node, 64>, Fault>
     ensures { made_of result ≡ read_text text.now }
 {
     let mut state = State::new();
-    let mut line = 1;
-    let mut byte = 0;
-    while byte < text.len() {
-        match state.next(&text[byte..]) {
-            Ok(n) => {
-                if text[byte] == b'\n' {
-                    line += 1;
-                }
-                byte += n;
-            }
-            Err(cause) => return Err(fault_at(cause, line, byte)),
-        }
+    let mut place = TextPlace { line: 1, byte: 0 };
+    for item in text.chunk_by(in_one_word) {
+        state
+            .take(item)
+            .map_err(|cause| Fault::Reader { cause, place })?;
+        place = past(place, item);
     }
-    match state.finish() {
-        Ok(nodes) => Ok(nodes),
-        Err(cause) => Err(fault_at(cause, line, byte)),
-    }
+    state
+        .finish()
+        .map_err(|cause| Fault::Reader { cause, place })
 }
 
 /// Reads a policy text into a place, or refuses it with its first fault and leaves the place as it was.
@@ -108,11 +91,6 @@ pub fn read(place: &mut Policy, text: &[u8]) -> Result<(), Fault>
     ensures grammar { Grammatical text.now result place.new }
 {
     let nodes = nodes_of(text)?;
-    match Policy::from_nodes(nodes) {
-        Some(policy) => {
-            *place = policy;
-            Ok(())
-        }
-        None => unreachable(),
-    }
+    *place = Policy::from_nodes(nodes).unwrap();
+    Ok(())
 }

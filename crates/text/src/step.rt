@@ -7,7 +7,7 @@ ghost use Rattle.text.specs.Steps.{answered, map_some, map_ok, part_due, closes,
 ghost use Rattle.text.specs.View.{reading, owed};
 
 use crate::due::{Due, Op, Part};
-use crate::head::{field_of, same};
+use crate::head::field_of;
 use crate::state::State;
 use crate::value::{number_of, test_of};
 use packet::{Bounded, Ports, ReaderCause};
@@ -101,14 +101,11 @@ fn head_of(kind: Kind, w: &[u8]) -> Option<Due>
 fn policy_head(w: &[u8]) -> Option<Due>
     ensures { head_due Kind.Policy w.now ≡ map_some due_of result }
 {
-    if same(w, b"send") {
-        Some(Due::First(Op::Send))
-    } else if same(w, b"both") {
-        Some(Due::First(Op::Both))
-    } else if same(w, b"keep") {
-        Some(Due::First(Op::Keep))
-    } else {
-        None
+    match w {
+        b"send" => Some(Due::First(Op::Send)),
+        b"both" => Some(Due::First(Op::Both)),
+        b"keep" => Some(Due::First(Op::Keep)),
+        _ => None,
     }
 }
 
@@ -116,21 +113,13 @@ fn policy_head(w: &[u8]) -> Option<Due>
 fn predicate_head(w: &[u8]) -> Option<Due>
     ensures { head_due Kind.Predicate w.now ≡ map_some due_of result }
 {
-    if same(w, b"any") {
-        Some(Due::Close(Node::Any))
-    } else if same(w, b"at") {
-        Some(Due::Switch)
-    } else if same(w, b"and") {
-        Some(Due::First(Op::And))
-    } else if same(w, b"or") {
-        Some(Due::First(Op::Or))
-    } else if same(w, b"not") {
-        Some(Due::First(Op::Not))
-    } else {
-        match field_of(w) {
-            Some(f) => Some(Due::Value(f)),
-            None => None,
-        }
+    match w {
+        b"any" => Some(Due::Close(Node::Any)),
+        b"at" => Some(Due::Switch),
+        b"and" => Some(Due::First(Op::And)),
+        b"or" => Some(Due::First(Op::Or)),
+        b"not" => Some(Due::First(Op::Not)),
+        _ => field_of(w).map(Due::Value),
     }
 }
 
@@ -155,18 +144,16 @@ impl State {
             if self.formed {
                 return Err(ReaderCause::Word);
             }
-            self.brackets.push(Due::Head(Kind::Policy));
+            self.brackets.push(Due::Head(Kind::Policy)).unwrap();
             return Ok(());
         };
         let Some(part) = part_of(d) else {
             return Err(ReaderCause::Word);
         };
-        self.brackets.push(part.after);
-        if self.brackets.push(Due::Head(part.kind)) {
-            Ok(())
-        } else {
-            Err(ReaderCause::Depth)
-        }
+        self.brackets.push(part.after).unwrap();
+        self.brackets
+            .push(Due::Head(part.kind))
+            .or(Err(ReaderCause::Depth))
     }
 
     /// A line end, outside brackets only.
@@ -218,7 +205,7 @@ impl State {
             return Err(ReaderCause::Word);
         };
         let next = filled(d, w)?;
-        self.brackets.push(next);
+        self.brackets.push(next).unwrap();
         Ok(())
     }
 }
@@ -227,11 +214,7 @@ impl State {
 fn add_node(nodes: &mut Bounded<Node, 64>, n: Node) -> Result<(), ReaderCause>
     ensures { grown (shape n) (map shape (newest nodes.old)) ≡ answered result (map shape (newest nodes.new)) }
 {
-    if nodes.push(n) {
-        Ok(())
-    } else {
-        Err(ReaderCause::Nodes)
-    }
+    nodes.push(n).or(Err(ReaderCause::Nodes))
 }
 
 /// What is due after a word.
@@ -239,18 +222,15 @@ fn filled(d: Due, w: &[u8]) -> Result<Due, ReaderCause>
     ensures { fill (due_of d) w.now ≡ map_ok due_of result }
 {
     match d {
-        Due::Head(kind) => match head_of(kind, w) {
-            Some(next) => Ok(next),
-            None => Err(ReaderCause::Head),
-        },
-        Due::Switch => match number_of(w, 65535) {
-            Some(n) => Ok(Due::Close(Node::At(n))),
-            None => Err(ReaderCause::Value),
-        },
-        Due::Value(f) => match test_of(f, w) {
-            Some(t) => Ok(Due::Close(Node::Is(t))),
-            None => Err(ReaderCause::Value),
-        },
+        Due::Head(kind) => head_of(kind, w).ok_or(ReaderCause::Head),
+        Due::Switch => {
+            let n = number_of(w, 65535).ok_or(ReaderCause::Value)?;
+            Ok(Due::Close(Node::At(n)))
+        }
+        Due::Value(f) => {
+            let t = test_of(f, w).ok_or(ReaderCause::Value)?;
+            Ok(Due::Close(Node::Is(t)))
+        }
         Due::Ports(ports) => with_port(ports, w),
         _ => Err(ReaderCause::Word),
     }
@@ -260,15 +240,10 @@ fn filled(d: Due, w: &[u8]) -> Result<Due, ReaderCause>
 fn with_port(mut ports: Ports, w: &[u8]) -> Result<Due, ReaderCause>
     ensures { fill (due_of (Due.Ports ports)) w.now ≡ map_ok due_of result }
 {
-    if ports.as_slice().len() >= MOST_PORTS {
+    if ports.as_slice().len() == MOST_PORTS {
         return Err(ReaderCause::Word);
     }
-    let Some(n) = number_of(w, 255) else {
-        return Err(ReaderCause::Value);
-    };
-    if ports.add(n as u8) {
-        Ok(Due::Ports(ports))
-    } else {
-        Err(ReaderCause::Value)
-    }
+    let n = number_of(w, 255).ok_or(ReaderCause::Value)?;
+    ports.add(n as u8).or(Err(ReaderCause::Value))?;
+    Ok(Due::Ports(ports))
 }

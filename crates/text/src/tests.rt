@@ -11,39 +11,25 @@ const JOINED: &[u8] =
 const OWN: &[u8] =
     b"(send (not (any)))\n(send (any))\n(send (any))\n(send (any))\n(send (any))\n(send (any))\n(send (any))\n(send (any))\n(send (any))\n(send (any))\n(send (any))\n(send (any))\n(send (any))\n(send (any))\n(send (any))\n(send (any))\n(send (any))\n(send (any))\n(send (any))\n(send (any))\n(send (any))\n(send (any))";
 
-fn stands_at(fault: Fault, line: usize, byte: usize) -> bool {
-    match fault {
-        Fault::Reader { place, .. } => place.line == line && place.byte == byte,
-        _ => false,
-    }
-}
-
 fn refused(text: &[u8], number: u8, line: usize, byte: usize) -> bool {
     let mut place = Policy::empty();
-    match read(&mut place, text) {
-        Ok(()) => false,
-        Err(fault) => fault.number() == number && stands_at(fault, line, byte),
-    }
+    read(&mut place, text).is_err_and(|fault| fault.number() == number
+        && stands_at(fault, line, byte))
+}
+
+fn stands_at(fault: Fault, line: usize, byte: usize) -> bool {
+    matches!(fault, Fault::Reader { place, .. } if place.line == line && place.byte == byte)
 }
 
 // How many nodes a text makes, or 0 where it is refused.
 fn count(text: &[u8]) -> usize {
     let mut place = Policy::empty();
-    match read(&mut place, text) {
-        Ok(()) => place.nodes().len(),
-        Err(_) => 0,
-    }
+    read(&mut place, text).map_or(0, |()| place.nodes().len())
 }
 
 // Whether the word writes that value of a field.
 fn gives(field: &[u8], word: &[u8], value: u64) -> bool {
-    match field_of(field) {
-        Some(f) => match value_of(f, word) {
-            Some(n) => n == value,
-            None => false,
-        },
-        None => false,
-    }
+    field_of(field).and_then(|f| value_of(f, word)) == Some(value)
 }
 
 // Whether the word writes no full value of a field.

@@ -1,46 +1,57 @@
 -- Each item reads on; a fault has the place of its item.
-use Rattle.std.proofs.Common.{◌≡◌, ℕ, ◌+◌, cond, eqb, length, get_or, Err, sym, ap, ◌∙◌, zero-le, add-zero, arith}
-use Rattle.std.proofs.lemmas.Bool.{cond-true, cond-false, eq-eqb, ne_eqb}
-use Rattle.std.proofs.lemmas.List.{length-drop, take_rest}
-use Rattle.text.specs.View.{reading}
+use Rattle.std.proofs.Common.{length, Err, sym, ap, ◌∙◌, arith, rules, tests, of_calls, length-append}
+use Rattle.std.proofs.lemmas.List.Sorted.{answers_always}
+use Rattle.std.proofs.lemmas.List.{nil_from_length}
+use Rattle.std.proofs.lemmas.Result.{err_from_is_err_and}
+use Rattle.text.specs.View.{reading, made_of}
 use Rattle.text.specs.Text.{read_on, read_text, tokens, at_place}
-use Rattle.text.proofs.Goes.{read_past, read_refused, read_end}
+use Rattle.text.proofs.Goes.{placed, made_placed, one_line, item_read, item_refused}
+use Rattle.text.proofs.Runs.{together}
 use Rattle.text.proofs.reader.nodes_of.Goals as goal
-use Rattle.text.proofs.reader.nodes_of.Goals.{then-text-byte-eq10, else-text-byte-eq10}
 
-pub loop-byte-init : goal.loop-byte-init
+pub loop-item-init : goal.loop-item-init
 unfolding read_text
-loop-byte-init c = (zero-le, omega arith, ap (λ s. read_on 1 0 s (tokens c.args.text.now)) c.new-state.ensures)
+loop-item-init c =
+    let rest = ap (λ i. i.rest.now) c.into_iter-item-iterator.ensures.into_iter_gives ∙ c.chunk_by-item-items.ensures.rest in record {
+      callable = search of_calls;
+      finite = search of_calls;
+      bytes = omega (arith, ap length rest);
+      lines = omega arith;
+      reads = ap (λ s. read_on 1 0 s (tokens c.into_iter-item-iterator.result.rest.now)) c.new-state.ensures ∙ ap (λ b. read_on 1 0 _ (tokens b)) rest;
+    }
 
-pub loop-byte-preserved : goal.loop-byte-preserved
-loop-byte-preserved c =
-    let b : ℕ = get_or c.args.text.now c.loop-byte.byte 0 in
-    let line : c.if-text-byte-eq10.line ≡ c.loop-byte.line + cond (eqb b 10) 1 0 =
-    elim c.if-text-byte-eq10.branch [
-      | then-text-byte-eq10 w ↦ w.line-is ∙ ap (λ k. c.loop-byte.line + k) (sym (cond-true (eqb b 10) 1 0 (eq-eqb b 10 w.if-text-byte-eq10.true)))
-      | else-text-byte-eq10 w ↦ w.line-is ∙ (sym (add-zero c.loop-byte.line) ∙ ap (λ k. c.loop-byte.line + k) (sym (cond-false (eqb b 10) 1 0 (ne_eqb b 10 w.if-text-byte-eq10.false))))
-    ] in
-    let in-text = c.in-Ok.ensures.within.1 in
-    let more = c.in-Ok.ensures.within.0 in (
-      omega (arith, ap length (take_rest c.args.text.now c.loop-byte.byte), length-drop c.loop-byte.byte c.args.text.now),
-      elim c.if-text-byte-eq10.branch [ then-text-byte-eq10 w ↦ omega (arith, w.line-is) | else-text-byte-eq10 w ↦ omega (arith, w.line-is) ],
-      sym (read_past c.args.text.now c.loop-byte.line c.loop-byte.byte (reading c.loop-byte.state) c.in-Ok.n c.if-text-byte-eq10.line (reading c.next.new.self)
-          (c.in-Ok.ensures.goes c.loop-byte.line c.loop-byte.byte) line) ∙ c.loop-byte.invariant.2,
-    )
+pub returns-in_err-map_err : goal.returns-in_err-map_err
+returns-in_err-map_err c =
+    let at = c.loop-item.place in
+    let steps = c.in-Some.ensures.steps in
+    let chunk = (steps.2 together (answers_always _ _ _ (λ f a r q h. search (rules, tests)))).1 in
+    let is = placed at.line at.byte c.take.result c.map_err.result _ c.map_err.ensures.cases (λ e f h. search (rules, tests)) in
+    let p = err_from_is_err_and c.from_residual.result c.from_residual.ensures.1 in
+    let refused = item_refused at.line at.byte (reading c.loop-item.state) (reading c.take.new.self) c.loop-item.item-iterator.rest.now c.in-Some.item.now c.next.new.self.rest.now steps.0 steps.1 chunk
+    c.take.result c.take.ensures c.in_err-map_err.field-0.0 (sym is ∙ c.in_err-map_err.was) in
+    ap made_of (p.1 ∙ ap Err p.2) ∙ (sym refused ∙ c.loop-item.invariant.reads)
 
-pub returns-in-Err : goal.returns-in-Err
-returns-in-Err c =
-    ap Err c.fault_at.ensures
-    ∙ (sym (read_refused c.args.text.now c.loop-byte.line c.loop-byte.byte (reading c.loop-byte.state) c.in-Err.cause (reading c.next.new.self)
-    (c.in-Err.ensures.goes c.loop-byte.line c.loop-byte.byte)) ∙ c.loop-byte.invariant.2)
+pub loop-item-preserved : goal.loop-item-preserved
+loop-item-preserved c =
+    let at = c.loop-item.place in
+    let steps = c.in-Some.ensures.steps in
+    let chunk = (steps.2 together (answers_always _ _ _ (λ f a r q h. search (rules, tests)))).1 in
+    let is = placed at.line at.byte c.take.result c.map_err.result _ c.map_err.ensures.cases (λ e f h. search (rules, tests)) in
+    let read = item_read at.line at.byte (reading c.loop-item.state) (reading c.take.new.self) c.loop-item.item-iterator.rest.now c.in-Some.item.now c.next.new.self.rest.now steps.0 steps.1 chunk
+    c.take.result c.take.ensures c.in_ok-map_err.field-0 (sym is ∙ c.in_ok-map_err.was) in record {
+      callable = search of_calls;
+      finite = search of_calls;
+      bytes = omega (arith, ap (λ p. p.byte) c.past-place.ensures, ap length steps.0, length-append c.in-Some.item.now c.next.new.self.rest.now, c.loop-item.invariant.bytes);
+      lines = omega (arith, ap (λ p. p.byte) c.past-place.ensures, ap (λ p. p.line) c.past-place.ensures, one_line c.in-Some.item.now, steps.1, c.loop-item.invariant.lines);
+      reads = ap (λ p. read_on p.line p.byte (reading c.take.new.self) (tokens c.next.new.self.rest.now)) c.past-place.ensures ∙ (sym read ∙ c.loop-item.invariant.reads);
+    }
 
-pub returns-in-Ok-finish : goal.returns-in-Ok-finish
-returns-in-Ok-finish c =
-    ap (at_place c.loop-byte.line c.loop-byte.byte) (sym c.in-Ok-finish.ensures)
-    ∙ (sym (read_end c.args.text.now c.loop-byte.line c.loop-byte.byte (reading c.loop-byte.state) c.loop-byte-test.false) ∙ c.loop-byte.invariant.2)
-
-pub returns-in-Err-finish : goal.returns-in-Err-finish
-returns-in-Err-finish c =
-    ap Err c.fault_at-in-Err-finish.ensures
-    ∙ (ap (at_place c.loop-byte.line c.loop-byte.byte) (sym c.in-Err-finish.ensures)
-    ∙ (sym (read_end c.args.text.now c.loop-byte.line c.loop-byte.byte (reading c.loop-byte.state) c.loop-byte-test.false) ∙ c.loop-byte.invariant.2))
+pub returns : goal.returns
+returns c =
+    let at = c.loop-item.place in
+    let is = placed at.line at.byte c.finish.result c.map_err-2.result _ c.map_err-2.ensures.cases (λ e f h. search (rules, tests)) in
+    let none = nil_from_length c.loop-item.item-iterator.rest.now c.in-None.ensures.steps.0 in
+    ap made_of is
+    ∙ (made_placed at.line at.byte c.finish.result
+    ∙ (ap (at_place at.line at.byte) (sym c.finish.ensures)
+    ∙ (ap (λ b. read_on at.line at.byte (reading c.loop-item.state) (tokens b)) (sym none) ∙ c.loop-item.invariant.reads)))

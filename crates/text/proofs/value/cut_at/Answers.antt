@@ -1,20 +1,22 @@
--- A byte that is not the mark goes in front; the mark cuts.
-use Rattle.std.proofs.Common.{take, sym, ◌∙◌, arith}
-use native.Mathlib.Nat.{sub-zero}
-use Rattle.std.proofs.lemmas.List.{at_drop_all, take_rest}
-use Rattle.text.specs.Values.{cut}
-use Rattle.text.proofs.Cutting.{onto, onto_none, cut_here, cut_later}
+-- The word is cut where the mark first stands.
+use Rattle.std.proofs.Common.{◌≡◌, eqb, sym, ap, ◌∙◌, rules, tests}
+use Rattle.std.specs.List.{position}
+use Rattle.std.specs.Option.{option_map}
+use Rattle.std.proofs.lemmas.List.{take_rest}
+use Rattle.std.proofs.lemmas.Iterator.{YieldsList-from_slice}
+use Rattle.std.proofs.lemmas.Iterator.Search.{position_from_yields_List}
+use Rattle.text.specs.Cuts.{map_cut}
+use Rattle.text.proofs.Cutting.{cut_first, sides}
 use Rattle.text.proofs.value.cut_at.Goals as goal
 
-pub returns-then-b-mark : goal.returns-then-b-mark
-returns-then-b-mark c =
-    simp (take_rest, sub-zero) (sym c.loop-i.invariant ∙ cut_here c.args.mark c.args.word.now c.loop-i.i c.loop-i-test.true c.if-b-mark.true)
-
-pub loop-i-preserved : goal.loop-i-preserved
-loop-i-preserved c = sym (cut_later c.args.mark c.args.word.now c.loop-i.i c.loop-i-test.true c.if-b-mark.false) ∙ c.loop-i.invariant
+pub returns-in_err-at : goal.returns-in_err-at
+returns-in_err-at c =
+    let e : c.position.result ≡ position (λ b. eqb b c.args.mark) c.args.word.now =
+    position_from_yields_List (λ b. eqb b c.args.mark) _ _ c.position.result c.position.ensures.ran (YieldsList-from_slice c.args.word.now cc) (λ x b q k. search (rules, tests)) in
+    cut_first c.args.mark c.args.word.now ∙ (ap (option_map (sides c.args.word.now)) (sym e ∙ c.in_err-at.was) ∙ sym (ap map_cut c.from_residual.ensures))
 
 pub returns : goal.returns
-returns c = sym c.loop-i.invariant ∙ at_drop_all (λ x. onto (take c.loop-i.i c.args.word.now) (cut c.args.mark x)) c.args.word.now c.loop-i.i (omega arith)
-
-pub loop-i-init : goal.loop-i-init
-loop-i-init c = onto_none _
+returns c =
+    let e : c.position.result ≡ position (λ b. eqb b c.args.mark) c.args.word.now =
+    position_from_yields_List (λ b. eqb b c.args.mark) _ _ c.position.result c.position.ensures.ran (YieldsList-from_slice c.args.word.now cc) (λ x b q k. search (rules, tests)) in
+    simp take_rest (cut_first c.args.mark c.args.word.now ∙ ap (option_map (sides c.args.word.now)) (sym e ∙ c.in_ok-at.was))

@@ -25,12 +25,12 @@ shifted k h =
     let p : 2 ^ k ≤ 2 ^ 48 = pow-le-pow_right z h in
     ap (λ x. x % 18446744073709551616) (one-mul (2 ^ k)) ∙ mod-eq_of_lt (omega arith)
 
-pub returns-then-from-past-eq0 : goal.returns-then-from-past-eq0
-returns-then-from-past-eq0 c =
+pub returns : goal.returns
+returns c =
     let f = c.args.field in
     let n = c.args.n in
     let l = c.args.length in
     let wide : c.width.result - l ≡ width f - l = ap (λ w. w - l) c.width.ensures in
     let past : 1 * 2 ^ (c.width.result - l) % 18446744073709551616 ≡ 2 ^ (width f - l) = ap (λ k. 1 * 2 ^ k % 18446744073709551616) wide ∙ shifted (width f - l) (omega (arith, narrow f)) in
-    let clear : n % 2 ^ (width f - l) ≡ 0 = sym (λ i. c.from.ensures i % past i) ∙ c.if-from-past-eq0.true in
-    c.new.ensures ∙ (ap (λ x. tested f x l) c.from-then-from-past-eq0.ensures ∙ sym (cond-true _ (tested f n l) None (eq-eqb _ _ clear)))
+    let clear : n % 2 ^ (width f - l) ≡ 0 = sym (λ i. c.from.ensures i % past i) ∙ c.if-from-past-ne0.false in
+    c.new.ensures ∙ (ap (λ x. tested f x l) c.from-2.ensures ∙ sym (cond-true _ (tested f n l) None (eq-eqb _ _ clear)))
