@@ -1,3 +1,2 @@
 pub mod Overlapping
-pub mod Every
 pub mod Tried

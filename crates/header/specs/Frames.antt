@@ -1,9 +1,9 @@
 -- The frame kind: a pattern states some fields' whole numbers.
 use Rattle.std.specs.Prelude.{ℕ, Bool, true, false, get_or, map, Some, None, Option, ◌==◌}
-use Rattle.packet.specs.Fields.{allowed, place, way, width}
+use Rattle.packet.specs.Fields.{allowed, fields, place, way, width}
 use Rattle.packet.specs.declared.field.Field.{Field}
 use Rattle.packet.specs.declared.test.Test.{Test}
-use Rattle.header.specs.Cells.{Cell, both_all, fields, test_cells}
+use Rattle.header.specs.Cells.{Cell, both_all, test_cells}
 use Rattle.header.specs.Laws.{Kind}
 use Rattle.header.specs.Layouts.{Layout, kind_of}
 use Rattle.header.specs.declared.frame.FramePattern.{FramePattern}

@@ -5,7 +5,7 @@ ghost use Rattle.header.specs.Exact.{exact_laws};
 ghost use Rattle.header.specs.FrameLaws.{laid};
 
 use crate::cell::Cell;
-use crate::pattern::{CellPattern, FIELDS};
+use crate::pattern::CellPattern;
 use packet::{Field, IP, TCP, Test};
 
 /// A pattern of the frame kind: for each field, in their order, the number that it must have, or none where any number does.
@@ -80,7 +80,7 @@ impl CellPattern for FramePattern {
 
     fn join(&self, other: &FramePattern) -> FramePattern {
         FramePattern {
-            cells: FIELDS.map(|field| self.at(field).both(field, other.at(field))),
+            cells: Field::ALL.map(|field| self.at(field).both(field, other.at(field))),
         }
     }
 }

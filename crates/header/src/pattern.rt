@@ -7,18 +7,6 @@ use crate::cell::Cell;
 use crate::kind::HeaderKind;
 use packet::{Field, Packet, Test};
 
-/// The fields, in their order.
-pub const FIELDS: [Field; 8] = [
-    Field::DlSrc,
-    Field::DlDst,
-    Field::DlTyp,
-    Field::NwSrc,
-    Field::NwDst,
-    Field::NwProto,
-    Field::TpSrc,
-    Field::TpDst,
-];
-
 /// A pattern with a cell for each field.
 pub trait CellPattern: Copy {
     /// What a pattern says of one field.
@@ -55,7 +43,7 @@ pub trait CellPattern: Copy {
 fn agrees<P: CellPattern>(first: &P, second: &P) -> bool
     ensures { result ≡ agrees_all P.Cell.cell (P.layout.at first.now) (P.layout.at second.now) }
 {
-    FIELDS
+    Field::ALL
         .iter()
         .all(|field| first.at(*field).agrees(*field, second.at(*field)))
 }
@@ -79,7 +67,7 @@ impl<P: CellPattern> HeaderKind for P {
     }
 
     fn hits(&self, packet: &Packet) -> bool {
-        FIELDS.iter().all(|field| self.at(*field).takes(*field, packet.number(*field)))
+        Field::ALL.iter().all(|field| self.at(*field).takes(*field, packet.number(*field)))
     }
 
     fn meet(&self, other: &P) -> Option<P> {
@@ -87,7 +75,7 @@ impl<P: CellPattern> HeaderKind for P {
     }
 
     fn covers(&self, other: &P) -> bool {
-        FIELDS
+        Field::ALL
             .iter()
             .all(|field| self.at(*field).covers(*field, other.at(*field)))
     }

@@ -1,3 +1,4 @@
+pub mod Chains
 pub mod Every
 pub mod PortOrder
 pub mod Pushes

@@ -1,5 +1,5 @@
 use Rattle.std.proofs.Common.{rules}
-use Rattle.header.proofs.Every.{every_of_all}
+use Rattle.packet.proofs.Chains.{every_of_all}
 use Rattle.header.proofs.pattern.AnyHeaderKind.covers.Goals as goal
 
 pub returns : goal.returns

@@ -1,6 +1,6 @@
 use Rattle.std.proofs.Common.{rules}
 use Rattle.packet.specs.Packets.{number}
-use Rattle.header.proofs.Every.{every_of_all}
+use Rattle.packet.proofs.Chains.{every_of_all}
 use Rattle.header.proofs.pattern.AnyHeaderKind.hits.Goals as goal
 
 pub returns : goal.returns
