@@ -18,7 +18,9 @@ fn two_files(heap: Global, first: &[u8], second: &[u8]) -> Result<Sources, Fail>
     let one = String::from_str(heap, "a.policy")?;
     let two = String::from_str(heap, "b.policy")?;
     sources.add(one, first).map_err(|_| Fail::new("no memory"))?;
-    sources.add(two, second).map_err(|_| Fail::new("no memory"))?;
+    sources
+        .add(two, second)
+        .map_err(|_| Fail::new("no memory"))?;
     Ok(sources)
 }
 
@@ -32,8 +34,9 @@ fn files_are_one_text(rt: HostRuntime) -> Result<(), Fail> {
     )?;
     let line = check_files(heap, &sources).map_err(|_| Fail::new("refused"))?;
     assert_eq!(rt; line.as_str(), "5 nodes");
-    let packet = packet_of(heap, "dldst=000000000001 dltyp=2048 nwproto=6 tpdst=80")
-        .map_err(|_| Fail::new("no packet"))?;
+    let Ok(packet) = packet_of(heap, "dldst=000000000001 dltyp=2048 nwproto=6 tpdst=80") else {
+        return Err(Fail::new("no packet"));
+    };
     let line = ports_of(heap, &sources, 1, &packet).map_err(|_| Fail::new("refused"))?;
     assert_eq!(rt; line.as_str(), "ports 1 4");
     Ok(())
@@ -56,10 +59,22 @@ fn packets_as_typed(rt: HostRuntime) -> Result<(), Fail> {
     let heap = rt.alloc();
     assert!(rt; packet_of(heap, "").is_ok());
     assert!(rt; packet_of(heap, "dltyp=2048 nwsrc=10.0.0.1").is_ok());
-    assert_eq!(rt; line_of(packet_of(heap, "tpdst=80"))?.as_str(), "refused 11 by the host at packet: numbers that break a packet's rules");
-    assert_eq!(rt; line_of(packet_of(heap, "dltyp=1 dltyp=2"))?.as_str(), "yarnbrick: dltyp is given twice");
-    assert_eq!(rt; line_of(packet_of(heap, "port=1"))?.as_str(), "yarnbrick: a packet has no field 'port'");
-    assert_eq!(rt; line_of(packet_of(heap, "nwproto=256"))?.as_str(), "yarnbrick: '256' is no value of nwproto");
+    assert_eq!(rt;
+        line_of(packet_of(heap, "tpdst=80"))?.as_str(),
+        "refused 11 by the host at packet: numbers that break a packet's rules"
+    );
+    assert_eq!(rt;
+        line_of(packet_of(heap, "dltyp=1 dltyp=2"))?.as_str(),
+        "yarnbrick: dltyp is given twice"
+    );
+    assert_eq!(rt;
+        line_of(packet_of(heap, "port=1"))?.as_str(),
+        "yarnbrick: a packet has no field 'port'"
+    );
+    assert_eq!(rt;
+        line_of(packet_of(heap, "nwproto=256"))?.as_str(),
+        "yarnbrick: '256' is no value of nwproto"
+    );
     Ok(())
 }
 
@@ -72,11 +87,13 @@ fn words(heap: Global, list: &[&str]) -> Result<Vec<String>, AllocError> {
 #[test]
 fn commands(rt: HostRuntime) -> Result<(), Fail> {
     let heap = rt.alloc();
-    let Ok(Command::Ports {
-        switch,
-        packet: _,
-        files,
-    }) = command_of(
+    let Ok(
+        Command::Ports {
+            switch,
+            packet: _,
+            files,
+        },
+    ) = command_of(
         heap,
         "ports",
         words(heap, &["--switch", "7", "--packet", "", "--", "--odd"])?,
@@ -86,8 +103,17 @@ fn commands(rt: HostRuntime) -> Result<(), Fail> {
     };
     assert_eq!(rt; switch, 7);
     assert_eq!(rt; files.len(), 1);
-    assert_eq!(rt; line_of(command_of(heap, "check", words(heap, &[])?))?.as_str(), "yarnbrick: check wants a policy file");
-    assert_eq!(rt; line_of(command_of(heap, "chek", words(heap, &[])?))?.as_str(), "yarnbrick: no command 'chek'; 'yarnbrick help' lists them");
-    assert_eq!(rt; line_of(command_of(heap, "check", words(heap, &["--kind"])?))?.as_str(), "yarnbrick: no option '--kind'; 'yarnbrick help' lists them");
+    assert_eq!(rt;
+        line_of(command_of(heap, "check", words(heap, &[])?))?.as_str(),
+        "yarnbrick: check wants a policy file"
+    );
+    assert_eq!(rt;
+        line_of(command_of(heap, "chek", words(heap, &[])?))?.as_str(),
+        "yarnbrick: no command 'chek'; 'yarnbrick help' lists them"
+    );
+    assert_eq!(rt;
+        line_of(command_of(heap, "check", words(heap, &["--kind"])?))?.as_str(),
+        "yarnbrick: no option '--kind'; 'yarnbrick help' lists them"
+    );
     Ok(())
 }

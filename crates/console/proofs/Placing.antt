@@ -40,9 +40,10 @@ module _ {S F X : Type 0} {steps : S → Option (Bor X) → S → Type 0} (g : M
       record {
         begun = λ z.
             let here : i < length xs = omega arith in
-            let d = some_item xs i here in
-            (omega (arith, length-map xs n),
-            rw (start i here) (read_and (λ x. Called g f (x, tt) true f) (λ x. n x ≤ byte) yes (u.at (length xs - 1 - i)) (get_or xs i d) (back.2 i d here (omega arith)) (subst (λ m. IsSomeAnd (u.at m) (λ x. Called g f (x, tt) true f)) place first.0)));
+            let d = some_item xs i here in (
+              omega (arith, length-map xs n),
+              rw (start i here) (read_and (λ x. Called g f (x, tt) true f) (λ x. n x ≤ byte) yes (u.at (length xs - 1 - i)) (get_or xs i d) (back.2 i d here (omega arith)) (subst (λ m. IsSomeAnd (u.at m) (λ x. Called g f (x, tt) true f)) place first.0)),
+            );
         later = λ k past inside.
             let here : k < length xs = omega (arith, inside, length-map xs n) in
             let d = some_item xs k here in

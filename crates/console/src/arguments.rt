@@ -140,9 +140,7 @@ impl Options {
     {
         self.finish(heap, "ports")?;
         let Some(packet) = self.packet else {
-            return Err(told(format!(in heap;
-                "yarnbrick: ports wants --packet \"FIELD=V ..\""
-            )));
+            return Err(told(format!(in heap; "yarnbrick: ports wants --packet \"FIELD=V ..\"")));
         };
         Ok(Command::Ports {
             switch: self.switch.unwrap_or(1),

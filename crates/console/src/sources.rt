@@ -91,7 +91,9 @@ impl Sources {
     fn name_of(&self, file: usize) -> &str
         ensures { result.now ≡ file_name self.now file }
     {
-        self.files.get(file).map_or("no file", |file| file.name.as_str())
+        self.files
+            .get(file)
+            .map_or("no file", |file| file.name.as_str())
     }
 
     /// The number of the file that a place is in: the last that begins there or before.
