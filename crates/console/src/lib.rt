@@ -1,5 +1,5 @@
 //! What the program is asked and what it answers, as text: arguments, packets as people type them, policy files read
-//! as one text, and the lines of each command.
+//! as one text, and the lines of each command. What allocates is handed the allocator, as in the library.
 #![tactic(auto)]
 
 mod answers;

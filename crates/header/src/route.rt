@@ -19,6 +19,7 @@ pub struct Prefix {
 /// A pattern of the route kind: whether the packet has to be IP, and how each of its addresses begins.
 #[derive(Clone, Copy, PartialEq, Eq, Debug)]
 pub struct RoutePattern {
+    // A flag, since of dltyp nothing but IP can be asked.
     pub network: bool,
     pub nwsrc: Prefix,
     pub nwdst: Prefix,

@@ -9,7 +9,7 @@ mod list;
 pub struct Full;
 
 /// A list of at most `N` items, kept in an array and a length: the library promises to allocate nothing, so it is no
-/// `Vec`, and nodes and ports are copied, so it is no `ArrayVec`.
+/// `Vec`, and nodes and ports are copied, so it is no `ArrayVec`. A derived `==` would read the unused places too.
 #[derive(Copy)]
 pub struct Bounded<T, const N: usize> {
     items: [T; N],

@@ -3,7 +3,7 @@ use packet::{Field, Ports};
 use policy::{Kind, Node};
 
 /// The heads whose brackets hold other brackets.
-#[derive(Clone, Copy)]
+#[derive(Clone, Copy, PartialEq, Eq, Debug)]
 pub enum Op {
     And,
     Or,

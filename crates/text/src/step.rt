@@ -9,7 +9,7 @@ ghost use Rattle.text.specs.View.{reading, owed};
 use crate::due::{Due, Op, Part};
 use crate::head::field_of;
 use crate::state::State;
-use crate::value::{number_of, test_of};
+use crate::value::{number_of, small_number_of, test_of};
 use packet::{Bounded, Ports, ReaderCause};
 use policy::{Kind, Node};
 
@@ -243,7 +243,7 @@ fn with_port(mut ports: Ports, w: &[u8]) -> Result<Due, ReaderCause>
     if ports.as_slice().len() == MOST_PORTS {
         return Err(ReaderCause::Word);
     }
-    let n = number_of(w, 255).ok_or(ReaderCause::Value)?;
-    ports.add(n as u8).or(Err(ReaderCause::Value))?;
+    let n = small_number_of(w, 255).ok_or(ReaderCause::Value)?;
+    ports.add(n).or(Err(ReaderCause::Value))?;
     Ok(Due::Ports(ports))
 }

@@ -64,7 +64,7 @@ fn cut_at(word: &[u8], mark: u8) -> Option<(&[u8], &[u8])>
 }
 
 /// What `number_of` gives, at a limit of 8 bits.
-fn small_number_of(word: &[u8], limit: u8) -> Option<u8>
+pub fn small_number_of(word: &[u8], limit: u8) -> Option<u8>
     ensures is { result ≡ numeral limit word.now }
     ensures small { IfSome result (λ n. n ≤ limit) }
 {

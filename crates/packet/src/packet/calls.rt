@@ -48,6 +48,7 @@ impl Packet {
             });
         }
         let [dlsrc, dldst, dltyp, nwsrc, nwdst, nwproto, tpsrc, tpdst] = *given;
+        // Casts, since the rules say that they lose nothing; a `try_from` of each would want an `unwrap`.
         Ok(Packet {
             dlsrc,
             dldst,
