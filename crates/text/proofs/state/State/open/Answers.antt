@@ -1,5 +1,5 @@
 -- A bracket opens a line's form, or a part that is due.
-use Rattle.std.proofs.Common.{◌≡◌, ◌∷◌, map, length, Some, Ok, Err, Result, sym, ap, ◌∙◌, arith}
+use Rattle.std.proofs.Common.{◌≡◌, ℕ, ◌∷◌, map, length, Some, Ok, Err, Result, sym, ap, ◌∙◌, arith}
 use Rattle.std.specs.Result.{result_or}
 use Rattle.packet.specs.Items.{items_of, Pushed}
 use Rattle.packet.specs.declared.bounded.Bounded.{Bounded}
@@ -8,13 +8,12 @@ use Rattle.packet.specs.declared.fault.ReaderCause.TheVariants.{Depth}
 use Rattle.policy.specs.declared.node.Kind.TheVariants.{Policy}
 use Rattle.text.specs.Dues.{due_of}
 use Rattle.text.specs.Dues.Due.{d_head}
-use Rattle.text.specs.Steps.{answered, opening, part_due}
+use Rattle.text.specs.Steps.{Reading, answered, opening, part_due, with_brackets}
 use Rattle.text.specs.Newest.{newest}
 use Rattle.text.specs.View.{reading, owed}
 use Rattle.text.specs.declared.due.Due.{Due}
 use Rattle.text.specs.declared.due.Due.TheVariants.{Head}
 use Rattle.text.specs.declared.due.Part.{Part}
-use Rattle.text.specs.declared.state.State.{State}
 use Rattle.text.proofs.Moves.{open_formed, open_form, open_no, open_deep, open_into}
 use Rattle.text.proofs.Stack.{length_newest, newest_empty, newest_one, newest_pop, newest_push, room_below}
 use Rattle.text.proofs.state.State.open.Goals as goal
@@ -40,14 +39,14 @@ returns-in_default-part_of c =
     open_no (reading s) (due_of c.in-Some.d) (newest left) (ap (map due_of) (newest_pop s.brackets left c.in-Some.d c.in-Some.ensures)) c.in_default-part_of.ensures
 
 -- what is due inside goes on what is due after it, unless 16 brackets are open
-opens : (s : State) (left once twice : Bounded Due 16) (d : Due) (next : Part) (r : Result (Unit {0}) Full) → newest s.brackets ≡ d ∷ newest left → part_due (due_of d) ≡ Some (owed next) → newest once ≡ next.after ∷ newest left → Pushed (items_of once) (Head next.kind) 16 r (items_of twice) → opening (reading s) ≡ answered (result_or r (Err Depth)) (reading (record { brackets = twice; nodes = s.nodes; formed = s.formed; joins = s.joins }))
-opens s left once twice d next (Ok u) top due first p =
+opens : {N : ℕ} → N ≡ 16 → (s : Reading) (left once twice : Bounded Due N) (d : Due) (next : Part) (r : Result (Unit {0}) Full) → s.brackets ≡ map due_of (d ∷ newest left) → part_due (due_of d) ≡ Some (owed next) → newest once ≡ next.after ∷ newest left → Pushed (items_of once) (Head next.kind) N r (items_of twice) → opening s ≡ answered (result_or r (Err Depth)) (with_brackets s (map due_of (newest twice)))
+opens sixteen s left once twice d next (Ok u) top due first p =
     let second : newest twice ≡ Head next.kind ∷ newest once = newest_one once twice (Head next.kind) p.1 in
-    open_into (reading s) (due_of d) (newest left) (ap (map due_of) top) (owed next) (map due_of (newest twice)) due
+    open_into s (due_of d) (newest left) top (owed next) (map due_of (newest twice)) due
     (omega (arith, length_newest once, ap length first, p.0))
     (ap (map due_of) second ∙ ap (λ x. d_head next.kind ∷ map due_of x) first)
-opens s left once twice d next (Err e) top due first p =
-    open_deep (reading s) (due_of d) (newest left) (ap (map due_of) top) (owed next) due
+opens sixteen s left once twice d next (Err e) top due first p =
+    open_deep s (due_of d) (newest left) top (owed next) due
     (omega (arith, length_newest once, ap length first, p.0))
 
 pub returns : goal.returns
@@ -55,7 +54,8 @@ returns c =
     let s = c.args.self.now in
     let left = c.pop.new.self in
     let once = c.push-2.new.self in
+    let twice = c.push-3.new.self in
     let next = c.in-Some-part_of.part in
     let first = newest_push left once next.after c.push-2.result c.push-2.ensures (room_below s.brackets left c.in-Some.d c.in-Some.ensures) in
-    opens s left once c.push-3.new.self c.in-Some.d next c.push-3.result (newest_pop s.brackets left c.in-Some.d c.in-Some.ensures) c.in-Some-part_of.ensures first c.push-3.ensures
-    ∙ ap (λ r. answered r (reading (record { brackets = c.push-3.new.self; nodes = s.nodes; formed = s.formed; joins = s.joins }))) (sym c.or.ensures)
+    opens (omega arith) (reading s) left once twice c.in-Some.d next c.push-3.result (ap (map due_of) (newest_pop s.brackets left c.in-Some.d c.in-Some.ensures)) c.in-Some-part_of.ensures first c.push-3.ensures
+    ∙ ap (λ r. answered r (with_brackets (reading s) (map due_of (newest twice)))) (sym c.or.ensures)
