@@ -14,7 +14,10 @@ fn widths_and_existence(rt: HostRuntime) {
         refused_by([281474976710655, 281474976710655, 65535, 0, 0, 0, 0, 0]),
         None
     );
-    assert_eq!(rt; refused_by([281474976710656, 0, 0, 0, 0, 0, 0, 0]), Some(11));
+    assert_eq!(rt;
+        refused_by([281474976710656, 0, 0, 0, 0, 0, 0, 0]),
+        Some(11)
+    );
     assert_eq!(rt; refused_by([0, 0, 65536, 0, 0, 0, 0, 0]), Some(11));
     assert_eq!(rt;
         refused_by([0, 0, 2048, 4294967295, 4294967295, 255, 0, 0]),
