@@ -1,5 +1,6 @@
 pub mod Adding
 pub mod Counting
+pub mod Fitting
 pub mod Leading
 pub mod Numbering
 pub mod Rooting

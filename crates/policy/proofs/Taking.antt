@@ -32,7 +32,7 @@ took n ts us e = grind arith
 takes : (n : Shape) (ts : Untaken) → take (arity n) (newest_kinds ts) ≡ reverse (wanted n) → is_some (add n ts) ≡ true
 takes n ts e = grind arith
 
-oldest_first : (ts : Untaken) → kinds_of ts ≡ reverse (newest_kinds ts)
+pub oldest_first : (ts : Untaken) → kinds_of ts ≡ reverse (newest_kinds ts)
 oldest_first [] = refl
 oldest_first (pred p ∷ ts) = ap (λ ks. ks ++ Predicate ∷ []) (oldest_first ts) ∙ sym (reverse-append (Predicate ∷ []) (newest_kinds ts))
 oldest_first (pol q ∷ ts) = ap (λ ks. ks ++ Policy ∷ []) (oldest_first ts) ∙ sym (reverse-append (Policy ∷ []) (newest_kinds ts))
@@ -42,8 +42,8 @@ some_is r e = grind arith
 
 module _ (n : Shape) (ts : Untaken) where
   -- the oldest kinds, where the newest are those wanted
-  pub found : (front : List Kind) → kinds_of ts ≡ front ++ wanted n → (is_some (add n ts) ≡ true) × (front ++ kind_of n ∷ [] ≡ kinds_of (trees (add n ts)))
-  found front e =
+  pub fits : (front : List Kind) → kinds_of ts ≡ front ++ wanted n → (is_some (add n ts) ≡ true) × (front ++ kind_of n ∷ [] ≡ kinds_of (trees (add n ts)))
+  fits front e =
       let newest : newest_kinds ts ≡ reverse (wanted n) ++ reverse front = sym (reverse-reverse (newest_kinds ts)) ∙ ap reverse (sym (oldest_first ts) ∙ e) ∙ reverse-append front (wanted n) in
       let some = takes n ts (ap (take (arity n)) newest ∙ take_at (reverse (wanted n)) (reverse front) (arity n) (length-reverse (wanted n))) in
       let left = (took n ts (trees (add n ts)) (some_is (add n ts) some)).1 in
