@@ -2,7 +2,6 @@
 use Rattle.std.specs.Prelude.{ℕ, Bool, true, false, cond, not, ◌&&◌, ◌||◌, List, [], ◌∷◌}
 use Rattle.packet.specs.Fields.{Numbers, Need, every, ways, same}
 use Rattle.packet.specs.declared.field.Field.{Field}
-use Rattle.packet.specs.declared.field.Field.TheVariants.{DlSrc, DlDst, DlTyp, NwSrc, NwDst, NwProto, TpSrc, TpDst}
 
 -- what a pattern says of one field
 pub record Cell (C : Type 0) : Type 0 where

@@ -60,6 +60,7 @@ impl CellPattern for FramePattern {
     }
 
     fn pattern(test: &Test) -> FramePattern {
+        // What a field needs to exist, as cells: a list of needs would want a type of its own for these two.
         let blank = FramePattern::blank();
         let network = blank.with(Field::DlTyp, IP);
         let needed = match test.field() {

@@ -32,6 +32,7 @@ const ANY: Prefix = Prefix {
 };
 
 /// The dltyp of IP packets.
+// A cast, since a constant's value calls no function.
 const NETWORK: Prefix = Prefix {
     value: IP as u32,
     length: 16,

@@ -9,7 +9,8 @@ mod list;
 pub struct Full;
 
 /// A list of at most `N` items, kept in an array and a length: the library promises to allocate nothing, so it is no
-/// `Vec`, and nodes and ports are copied, so it is no `ArrayVec`. A derived `==` would read the unused places too.
+/// `Vec`, and ports are copied with their nodes, so it is no `ArrayVec`, which cannot be.
+// No `Model` and no derived `==`: a `Copy` type's view has to give its fields back, and `==` would read the unused places.
 #[derive(Copy)]
 pub struct Bounded<T, const N: usize> {
     items: [T; N],

@@ -15,6 +15,7 @@ pub enum PortError {
     Full,
 }
 
+// No derived `==`, which would read the unused places of the list.
 /// At most eight ports, 1 to 48, in rising order; a port that stands there twice gets two copies.
 #[derive(Clone, Copy)]
 pub struct Ports {

@@ -29,7 +29,7 @@ fits_only n ts some =
     let parts = (took n ts (trees (add n ts)) (some_is (add n ts) some)).0 in (
       reverse front,
       oldest_first ts ∙ ap reverse (sym (take-append-drop (arity n) newest)) ∙ reverse-append (take (arity n) newest) front
-      ∙ ap (λ l. reverse front ++ reverse l) parts ∙ ap (λ l. reverse front ++ l) (reverse-reverse (wanted n)),
+          ∙ ap (λ l. reverse front ++ reverse l) parts ∙ ap (λ l. reverse front ++ l) (reverse-reverse (wanted n)),
     )
 
 never : Policy ≢ Predicate

@@ -112,11 +112,11 @@ fn count_sends(sends: &[Ports]) -> [u16; 48]
     counts
 }
 
-// The switch's number and the packet are two parameters, since they come from two owners: who asks, and a frame.
 /// How many copies of a packet the policy sends out of each port at a switch number: 48 counts, port 1 first.
 pub fn evaluate(policy: &Policy, switch: u16, packet: &Packet) -> [u16; 48]
     ensures { Counts (tree_of policy.now) switch packet.now result }
 {
+    // Two parameters, the number and the packet: a struct of the two would be made for this call alone.
     let mut walk = Walk::new(switch, packet);
     for node in policy.nodes() {
         walk.step(node);

@@ -11,6 +11,7 @@ pub enum Kind {
     Policy,
 }
 
+// No derived `==`, as `Ports` has none.
 /// A node of a policy. Its parts are not named: they are the newest nodes that no node has taken yet.
 #[derive(Clone, Copy)]
 pub enum Node {

@@ -29,6 +29,7 @@ impl fmt::Display for TextPlace {
     }
 }
 
+// A `Display` for each enum of causes, and for calls: they differ in nothing but their words.
 impl fmt::Display for ReaderCause {
     ghost output = { λ c. Some (reader_meaning c) };
 

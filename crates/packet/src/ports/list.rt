@@ -1,21 +1,18 @@
-ghost use Rattle.std.specs.Prelude.{◌≡◌, ◌<◌, [], length};
+ghost use Rattle.std.specs.Prelude.{◌≡◌, ◌<◌, [], length, MatchResult};
 ghost use Rattle.packet.specs.Items.{items_of};
 ghost use Rattle.packet.specs.PortLists.{placed, Added};
 ghost use Rattle.packet.specs.Written.{written};
 
 use super::{PortError, Ports};
-use crate::bounded::Bounded;
-
-/// How many ports a list has room for.
-const ROOM: usize = 8;
+use crate::bounded::{Bounded, Full};
 
 /// The highest port of a switch.
 const HIGHEST: u8 = 48;
 
-/// The list with one port more, at its place.
-fn with_port(list: &Bounded<u8, 8>, port: u8) -> Bounded<u8, 8>
-    requires { length (items_of list.now) < 8 }
-    ensures { items_of result ≡ placed port (items_of list.now) }
+// One turn for each port, the lower of two put down: `partition_point` and a rotation would want a list lent to be changed.
+/// The list with one port more, at its place; refused where eight stand there.
+fn with_port(list: &Bounded<u8, 8>, port: u8) -> Result<Bounded<u8, 8>, Full>
+    ensures { MatchResult result (λ grown. (length (items_of list.now) < 8) × (items_of grown ≡ placed port (items_of list.now))) (λ _. length (items_of list.now) ≡ 8) }
 {
     let mut grown = Bounded::new(0);
     let mut high = port;
@@ -23,8 +20,8 @@ fn with_port(list: &Bounded<u8, 8>, port: u8) -> Bounded<u8, 8>
         grown.push((*here).min(high)).unwrap();
         high = (*here).max(high);
     }
-    grown.push(high).unwrap();
-    grown
+    grown.push(high)?;
+    Ok(grown)
 }
 
 impl Ports {
@@ -44,11 +41,7 @@ impl Ports {
         if port == 0 || port > HIGHEST {
             return Err(PortError::NoPort);
         }
-        if self.list.len() == ROOM {
-            return Err(PortError::Full);
-        }
-        let grown = with_port(&self.list, port);
-        self.list = grown;
+        self.list = with_port(&self.list, port).or(Err(PortError::Full))?;
         Ok(())
     }
 

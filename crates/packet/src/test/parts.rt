@@ -3,6 +3,7 @@ ghost use Rattle.std.specs.Prelude.{◌≡◌};
 use super::Test;
 use crate::field::Field;
 
+// Getters, since the ghost field asks that the fields be private.
 impl Test {
     /// The field that the test looks at.
     pub fn field(&self) -> Field
