@@ -14,6 +14,7 @@ mod calls;
 /// Each node has as its parts the newest nodes not yet taken, and only the last, a policy, stays untaken (`sound`).
 /// So parts are numbered below their node, each node but the last belongs to one node, the kinds of the parts are
 /// right, and the last belongs to none and is a policy. A policy is not `Copy`: a load uses it up.
+// No `Model`: clauses see a policy as its nodes and as its tree, and a `Model` has one view.
 #[derive(Drop)]
 pub struct Policy {
     // Parts come before their node in one bounded list, and not in boxes, since the library allocates nothing.
