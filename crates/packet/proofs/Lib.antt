@@ -5,5 +5,6 @@ pub mod Pushes
 pub mod Put
 pub mod Same
 pub mod Testing
+pub mod Trying
 pub mod Ways
 pub mod Witness

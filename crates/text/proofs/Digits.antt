@@ -5,7 +5,7 @@ use Rattle.std.proofs.lemmas.Bool.Decides.{nat_tests}
 use Rattle.std.proofs.Math.Nat.{le-mul_of_pos_right}
 use Rattle.text.specs.Values.{and_some, at_most, digit_in, digits, nibble}
 use Rattle.text.proofs.Clash.{none_some}
-use Rattle.text.proofs.Trying.{tries}
+use Rattle.packet.proofs.Trying.{on_some, tries}
 
 -- the digits of base 16
 pub digit_sixteen : (b : ℕ) → digit_in 16 b ≡ nibble b
@@ -39,11 +39,11 @@ module _ (limit base : ℕ) (some : 0 < base) where
   tries_digits n [] h = sym (cond-true (leb n limit) (Some n) None (le-leb n limit h))
   tries_digits n (b ∷ bs) h = go (digit_in base b) (λ m. rest m (λ k. tries_digits m bs k) (leb m limit) refl)
     where
-      rest : (m : ℕ) → (m ≤ limit → tries (next limit base) m bs ≡ at_most limit (digits base (digit_in base) m bs)) → (t : Bool) → leb m limit ≡ t → and_some (cond t (Some m) None) (λ k. tries (next limit base) k bs) ≡ at_most limit (digits base (digit_in base) m bs)
+      rest : (m : ℕ) → (m ≤ limit → tries (next limit base) m bs ≡ at_most limit (digits base (digit_in base) m bs)) → (t : Bool) → leb m limit ≡ t → on_some (cond t (Some m) None) (λ k. tries (next limit base) k bs) ≡ at_most limit (digits base (digit_in base) m bs)
       rest m more true e = more (leb-true m limit e)
       rest m more false e = sym (past_limit (digit_in base) m bs (leb-false m limit e))
 
-      go : (o : Option ℕ) → ((m : ℕ) → and_some (at_most limit (Some m)) (λ k. tries (next limit base) k bs) ≡ at_most limit (digits base (digit_in base) m bs)) → and_some (and_some o (λ d. at_most limit (Some (n * base + d)))) (λ k. tries (next limit base) k bs) ≡ at_most limit (and_some o (λ d. digits base (digit_in base) (n * base + d) bs))
+      go : (o : Option ℕ) → ((m : ℕ) → on_some (at_most limit (Some m)) (λ k. tries (next limit base) k bs) ≡ at_most limit (digits base (digit_in base) m bs)) → on_some (and_some o (λ d. at_most limit (Some (n * base + d)))) (λ k. tries (next limit base) k bs) ≡ at_most limit (and_some o (λ d. digits base (digit_in base) (n * base + d) bs))
       go None more = refl
       go (Some d) more = more (n * base + d)
 

@@ -14,4 +14,3 @@ pub mod Sound
 pub mod Spaces
 pub mod Stack
 pub mod Stopping
-pub mod Trying

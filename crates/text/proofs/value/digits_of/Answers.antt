@@ -3,7 +3,7 @@ use Rattle.std.proofs.Common.{◌≡◌, ◌∙◌, rules, tests, arith}
 use Rattle.std.proofs.lemmas.Iterator.{YieldsList-from_slice}
 use Rattle.std.specs.ControlFlow.{continue_value}
 use Rattle.text.proofs.Digits.{next, tries_digits}
-use Rattle.text.proofs.Trying.{tried}
+use Rattle.packet.proofs.Trying.{tried}
 use Rattle.text.proofs.value.digits_of.Goals as goal
 
 pub returns : goal.returns

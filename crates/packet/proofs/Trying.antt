@@ -8,12 +8,16 @@ use Rattle.std.specs.Fn.{Called}
 use Rattle.std.specs.Iterator.{TryFoldTurn, TryFoldsItems, Yields}
 use Rattle.std.specs.List.{FoldsTo}
 use Rattle.std.specs.Option.{MatchOption}
-use Rattle.text.specs.Values.{and_some}
+
+-- what a value is taken on to, if there is one
+abbrev pub on_some : {A B : Type 0} → Option A → (A → Option B) → Option B
+on_some None f = None
+on_some (Some a) f = f a
 
 -- the step over a list, from a on
 abbrev pub tries : {B X : Type 0} → (B → X → Option B) → B → List X → Option B
 tries step a [] = Some a
-tries step a (x ∷ xs) = and_some (step a x) (λ b. tries step b xs)
+tries step a (x ∷ xs) = on_some (step a x) (λ b. tries step b xs)
 
 module _ {A X B F E : Type 0} (v : A → X) (g : Mut F (B × (A × Unit {0})) (Option B)) (branches : Option B → ControlFlow E B → Type 0) (step : B → X → Option B) (f : F)
     (goes : (o : Option B) (b : B) → branches o (Continue b) → o ≡ Some b)
@@ -24,7 +28,7 @@ module _ {A X B F E : Type 0} (v : A → X) (g : Mut F (B × (A × Unit {0})) (O
   turned (x ∷ xs) p q (j, t, w) i ys =
       let k = calls p.1 x t.0 j.0 (subst (λ z. Called g z (p.1, (x, tt)) t.0 j.0) i t.1) in
       let more = turned xs j q w k.0 ys in
-      (more.0, ap (λ o. and_some o (λ b. tries step b (map v xs ++ ys))) (sym k.1 ∙ goes t.0 j.1 t.2) ∙ more.1)
+      (more.0, ap (λ o. on_some o (λ b. tries step b (map v xs ++ ys))) (sym k.1 ∙ goes t.0 j.1 t.2) ∙ more.1)
 
   module _ {S : Type 0} {steps : S → Option A → S → Type 0} {s : S} {all : List X} (road : YieldsList steps v s all) (resumes : E → Option B → Type 0)
       (breaks : (o : Option B) (e : E) → branches o (Break e) → o ≡ None) (stops : (e : E) (r : Option B) → resumes e r → r ≡ None) (init : B) (r : Option B) (u : S) where
@@ -43,7 +47,7 @@ module _ {A X B F E : Type 0} (v : A → X) (g : Mut F (B × (A × Unit {0})) (O
         ∙ ap (λ z. map v xs ++ z ∷ rest) (sym next.1))) in
         let before = turned xs (f, init) (f', a) turns refl (v x ∷ rest) in
         let none : step a (v x) ≡ None = sym (calls a x w h (subst (λ z. Called g z (a, (x, tt)) w h) before.0 call)).1 ∙ breaks w e b in
-        stops e r z ∙ sym (ap (tries step init) cut ∙ (before.1 ∙ ap (λ o. and_some o (λ b. tries step b rest)) none))
+        stops e r z ∙ sym (ap (tries step init) cut ∙ (before.1 ∙ ap (λ o. on_some o (λ b. tries step b rest)) none))
 
     all_tried : TryFoldsItems steps g branches resumes s f init r u → r ≡ tries step init all
     all_tried p = ended p.0 p.1 p.2 p.3 p.4.0 p.4.1 p.4.2 p.5 p.6
