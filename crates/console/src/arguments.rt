@@ -36,7 +36,7 @@ enum Due {
 }
 
 /// The options and files of a command, word by word.
-#[derive(Drop)]
+#[derive(Debug, Drop)]
 struct Options {
     due: Due,
     switch: Option<u16>,

@@ -8,7 +8,7 @@ use std::alloc::Global;
 use text::{field_of, value_of};
 
 /// The numbers of a packet that is being typed, each once it has been given.
-#[derive(Clone, Copy)]
+#[derive(Clone, Copy, PartialEq, Eq, Debug)]
 struct Typed {
     numbers: [Option<u64>; 8],
 }

@@ -7,7 +7,7 @@ use packet::{Fault, TextPlace};
 use std::alloc::{AllocError, Global};
 
 /// A policy file.
-#[derive(Drop)]
+#[derive(Debug, Drop)]
 struct File {
     name: String,
     /// The byte of the whole text at which the file begins.
@@ -15,7 +15,7 @@ struct File {
 }
 
 /// Policy files read as one text, in the order given.
-#[derive(Drop)]
+#[derive(Debug, Drop)]
 pub struct Sources {
     files: Vec<File>,
     text: Vec<u8>,
