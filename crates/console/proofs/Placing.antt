@@ -1,8 +1,9 @@
 -- Where a place stands in its file: the file is the last that begins there or before.
-use Rattle.std.proofs.Common.{◌≡◌, ℕ, zero, suc, ◌+◌, ◌-◌, ◌<◌, ◌≤◌, Bool, true, false, List, [], ◌∷◌, map, length, get_or, slice_get, Some, None, Option, IfSome, IsSomeAnd, MatchOption, refl, sym, ap, ◌∙◌, subst, arith, Bor}
+use Rattle.std.proofs.Common.{◌≡◌, ℕ, zero, suc, ◌-◌, ◌<◌, ◌≤◌, Bool, true, false, List, [], ◌∷◌, map, length, get_or, slice_get, Some, None, Option, IfSome, IsSomeAnd, MatchOption, sym, ap, ◌∙◌, subst, arith, Bor}
 use Rattle.std.proofs.lemmas.List.{get_or-map, length-map}
+use Rattle.std.proofs.lemmas.Option.{slice_get-get_or}
 use Rattle.std.specs.Fn.{CalledAt}
-use Rattle.std.specs.Iterator.Runs.{Run, ItemsMapToReversed, NoItemPasses, EndsAtFirstPassing, CallKeepsClosure, AllItemsBelow}
+use Rattle.std.specs.Iterator.Runs.{Run, ItemsMapToReversed, NoItemPasses, EndsAtFirstPassing, CallKeepsClosure}
 use Rattle.std.specs.Option.{option_map, option_copied, option_or}
 use Rattle.console.specs.Texts.{LastBegun}
 use denote.Param.Members.{Mut, Called}
@@ -19,11 +20,6 @@ module _ {X B : Type 0} (v : X → B) (d : B) where
 some_item : {X : Type 0} (xs : List X) (k : ℕ) → k < length xs → X
 some_item [] k h = absurd (omega arith)
 some_item (x ∷ xs) k h = x
-
-item_at : {X : Type 0} (xs : List X) (k : ℕ) (d : X) → k < length xs → Some (get_or xs k d) ≡ slice_get xs k
-item_at [] k d h = absurd (omega arith)
-item_at (x ∷ xs) zero d h = refl
-item_at (x ∷ xs) (suc k) d h = item_at xs k d (omega arith)
 
 module _ {X : Type 0} (P : Bor X → Type 0) (Q : X → Type 0) (gives : (x : Bor X) → P x → Q x.now) where
   read_if : (o : Option (Bor X)) (v : X) → option_map (λ x. x.now) o ≡ Some v → IfSome o P → Q v
@@ -72,4 +68,4 @@ module _ {S F X : Type 0} {steps : S → Option (Bor X) → S → Type 0} (g : M
             let there : k < length xs = omega (arith, inside, length-map xs n) in
             let d = some_item xs k there in
             rw (start k there) (read_and (λ y. CalledAt g f y false f) (λ y. byte < n y) failed (u.at (length xs - 1 - k)) (get_or xs k d) (back.2 k d there (omega (arith, h.1, past))) (calls.1 (length xs - 1 - k) (omega (arith, h.1, past))));
-      }, item ∙ item_at xs (length xs - 1 - i) d here)
+      }, item ∙ sym (slice_get-get_or xs (length xs - 1 - i) d here))
