@@ -43,14 +43,18 @@ module _ {S F X : Type 0} {steps : S → Option (Bor X) → S → Type 0} (g : M
 
   -- what `rfind` gives of files at the test whether they begin at a byte or before, and the first file where it gives none
   pub last_begun : (r first : Option (Bor X)) → option_copied first ≡ slice_get xs 0 → MatchOption r ((u.whole ≡ true) × NoItemPasses u g f) (EndsAtFirstPassing u g f) → (k : ℕ) × LastBegun (map n xs) byte k × (option_copied (option_or r first) ≡ slice_get xs k)
-  last_begun None first e h = (0, record {
-    begun = λ z. absurd (omega arith);
-    later = λ k past inside.
-        let here : k < length xs = omega (arith, inside, length-map xs n) in
-        let d = some_item xs k here in
-        let reached : length xs - 1 - k < u.len = omega (arith, back.1 h.0) in
-        rw (start k here) (read_if (λ x. CalledAt g f x false f) (λ x. byte < n x) failed (u.at (length xs - 1 - k)) (get_or xs k d) (back.2 k d here reached) (h.1 keeps (length xs - 1 - k)));
-  }, e)
+  last_begun None first e h = (
+    0,
+    record {
+      begun = λ z. absurd (omega arith);
+      later = λ k past inside.
+          let here : k < length xs = omega (arith, inside, length-map xs n) in
+          let d = some_item xs k here in
+          let reached : length xs - 1 - k < u.len = omega (arith, back.1 h.0) in
+          rw (start k here) (read_if (λ x. CalledAt g f x false f) (λ x. byte < n x) failed (u.at (length xs - 1 - k)) (get_or xs k d) (back.2 k d here reached) (h.1 keeps (length xs - 1 - k)));
+    },
+    e,
+  )
   last_begun (Some x) first e h =
       let i = h.0 in
       let here : length xs - 1 - i < length xs = omega (arith, back.0, h.1) in
@@ -58,14 +62,17 @@ module _ {S F X : Type 0} {steps : S → Option (Bor X) → S → Type 0} (g : M
       let d = some_item xs (length xs - 1 - i) here in
       let at : option_map (λ y. y.now) (u.at (length xs - 1 - (length xs - 1 - i))) ≡ Some (get_or xs (length xs - 1 - i) d) = back.2 (length xs - 1 - i) d here (omega (arith, back.0, h.1)) in
       let item : Some x.now ≡ Some (get_or xs (length xs - 1 - i) d) = ap (option_map (λ y. y.now)) (sym h.2 ∙ ap u.at (sym place)) ∙ at in
-      let calls = h.3 keeps in
-      (length xs - 1 - i, record {
-        begun = λ z. (
-          omega (arith, here, length-map xs n),
-          rw (start (length xs - 1 - i) here) (read_and (λ y. CalledAt g f y true f) (λ y. n y ≤ byte) passed (Some x) (get_or xs (length xs - 1 - i) d) item calls.0),
-        );
-        later = λ k past inside.
-            let there : k < length xs = omega (arith, inside, length-map xs n) in
-            let d = some_item xs k there in
-            rw (start k there) (read_and (λ y. CalledAt g f y false f) (λ y. byte < n y) failed (u.at (length xs - 1 - k)) (get_or xs k d) (back.2 k d there (omega (arith, h.1, past))) (calls.1 (length xs - 1 - k) (omega (arith, h.1, past))));
-      }, item ∙ sym (slice_get-get_or xs (length xs - 1 - i) d here))
+      let calls = h.3 keeps in (
+        length xs - 1 - i,
+        record {
+          begun = λ z. (
+            omega (arith, here, length-map xs n),
+            rw (start (length xs - 1 - i) here) (read_and (λ y. CalledAt g f y true f) (λ y. n y ≤ byte) passed (Some x) (get_or xs (length xs - 1 - i) d) item calls.0),
+          );
+          later = λ k past inside.
+              let there : k < length xs = omega (arith, inside, length-map xs n) in
+              let d = some_item xs k there in
+              rw (start k there) (read_and (λ y. CalledAt g f y false f) (λ y. byte < n y) failed (u.at (length xs - 1 - k)) (get_or xs k d) (back.2 k d there (omega (arith, h.1, past))) (calls.1 (length xs - 1 - k) (omega (arith, h.1, past))));
+        },
+        item ∙ sym (slice_get-get_or xs (length xs - 1 - i) d here),
+      )

@@ -38,6 +38,7 @@ enum Due {
 /// The options and files of a command, word by word.
 #[derive(Debug, Drop)]
 struct Options {
+    // A state of the reading: words are taken one by one, and `help` never asks whether the last option has its value.
     due: Due,
     switch: Option<u16>,
     packet: Option<Packet>,
