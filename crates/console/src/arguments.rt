@@ -140,9 +140,9 @@ impl Options {
         ensures { MatchResult result (Follows (codes "ports") (asked self)) (Because (Lacks (codes "ports") (asked self))) }
     {
         self.finish(heap, "ports")?;
-        let Some(packet) = self.packet else {
-            return Err(told(format!(in heap; "yarnbrick: ports wants --packet \"FIELD=V ..\"")));
-        };
+        let packet = self.packet.ok_or_else(|| {
+            told(format!(in heap; "yarnbrick: ports wants --packet \"FIELD=V ..\""))
+        })?;
         Ok(Command::Ports {
             switch: self.switch.unwrap_or(1),
             packet,
