@@ -5,10 +5,8 @@ use Rattle.std.proofs.lemmas.Str.Pattern.{IsSplitOnceResult, split_parts}
 use Rattle.text.specs.Heads.{named_field}
 use Rattle.text.specs.Values.{test_from, full_value}
 use Rattle.packet.specs.Fields.{place}
-use Rattle.console.specs.Commands.{Because}
 use Rattle.console.specs.Typed.{AddsNone}
-use Rattle.console.specs.declared.failure.Failure.TheVariants.{Told}
-use Rattle.console.proofs.Failing.{told_case, because_case}
+use Rattle.console.proofs.Failing.{because_case}
 use Rattle.console.proofs.Signs.{never_whole, never_unnamed, never_unsaid, same_field}
 use Rattle.console.proofs.packets.Typed.add.Goals as goal
 
@@ -17,8 +15,7 @@ returns-in_err-name c =
     let p = err_from_is_err_and c.from_residual.result c.from_residual.ensures.1 in
     let none : c.split_once.result ≡ None = search rules in
     let cut : IsSplitOnceResult 61 c.args.word.now None = rw none at c.split_once.ensures.cases in
-    let because : Because (Unit {0}) c.in_err-name.field-0.0 = search rules in
-    rw (p.1, p.2) (because_case (AddsNone c.args.word.now c.args.self.now) c.in_err-name.field-0.0 because (λ line f n g. absurd (never_whole g cut)) tt)
+    rw (p.1, p.2) (because_case (AddsNone c.args.word.now c.args.self.now) c.in_err-name.field-0.0 (search rules) (λ line f n g. absurd (never_whole g cut)) tt)
 
 pub returns-in_err-field : goal.returns-in_err-field
 returns-in_err-field c =
@@ -28,8 +25,7 @@ returns-in_err-field c =
     let cut : IsSplitOnceResult 61 c.args.word.now (Some parts) = rw some at c.split_once.ensures.cases in
     let none : c.field_of.result ≡ None = search rules in
     let unnamed = ap named_field (sym c.as_bytes.ensures.value) ∙ sym c.field_of.ensures ∙ none in
-    let because : Because (Unit {0}) c.in_err-field.field-0.0 = search rules in
-    rw (p.1, p.2) (because_case (AddsNone c.args.word.now c.args.self.now) c.in_err-field.field-0.0 because (λ line f n g. absurd (never_unnamed g parts cut unnamed)) tt)
+    rw (p.1, p.2) (because_case (AddsNone c.args.word.now c.args.self.now) c.in_err-field.field-0.0 (search rules) (λ line f n g. absurd (never_unnamed g parts cut unnamed)) tt)
 
 pub returns-in_err-number : goal.returns-in_err-number
 returns-in_err-number c =
@@ -41,8 +37,7 @@ returns-in_err-number c =
     let named = ap named_field (sym c.as_bytes.ensures.value) ∙ sym c.field_of.ensures ∙ field in
     let none : c.value_of.result ≡ None = search rules in
     let unsaid = ap (λ l. full_value c.in_ok-field.field (test_from c.in_ok-field.field l)) (sym c.as_bytes-2.ensures.value) ∙ sym c.value_of.ensures ∙ none in
-    let because : Because (Unit {0}) c.in_err-number.field-0.0 = search rules in
-    rw (p.1, p.2) (because_case (AddsNone c.args.word.now c.args.self.now) c.in_err-number.field-0.0 because (λ line f n g. absurd (never_unsaid g parts cut c.in_ok-field.field named unsaid)) tt)
+    rw (p.1, p.2) (because_case (AddsNone c.args.word.now c.args.self.now) c.in_err-number.field-0.0 (search rules) (λ line f n g. absurd (never_unsaid g parts cut c.in_ok-field.field named unsaid)) tt)
 
 pub returns-then-is_some : goal.returns-then-is_some
 returns-then-is_some c =
@@ -53,11 +48,11 @@ returns-then-is_some c =
     let cut : IsSplitOnceResult 61 c.args.word.now (Some parts) = rw some at c.split_once.ensures.cases in
     let field : c.field_of.result ≡ Some c.in_ok-field.field = search rules in
     let named = ap named_field (sym c.as_bytes.ensures.value) ∙ sym c.field_of.ensures ∙ field in
-    told_case Told (AddsNone word old) c.format.result c.told.result
+    because_case (AddsNone word old) c.told.result (search rules)
     (λ line f n g.
     let same = same_field g parts cut c.in_ok-field.field named in
     ap (λ k. is_some (get_or old.numbers (place k) None)) same ∙ ap (λ i. is_some (get_or old.numbers i None)) (sym c.place-place.ensures.is) ∙ sym c.is_some.ensures ∙ c.if-is_some.true)
-    tt c.told.ensures
+    tt
 
 pub returns : goal.returns
 returns c =
