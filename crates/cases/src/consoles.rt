@@ -17,10 +17,8 @@ fn two_files(heap: Global, first: &[u8], second: &[u8]) -> Result<Sources, Fail>
     let mut sources = Sources::new(heap);
     let one = String::from_str(heap, "a.policy")?;
     let two = String::from_str(heap, "b.policy")?;
-    sources.add(one, first).map_err(|_| Fail::new("no memory"))?;
-    sources
-        .add(two, second)
-        .map_err(|_| Fail::new("no memory"))?;
+    sources.add(one, first)?;
+    sources.add(two, second)?;
     Ok(sources)
 }
 
@@ -32,12 +30,10 @@ fn files_are_one_text(rt: HostRuntime) -> Result<(), Fail> {
         b"(send (dldst 000000000001) 1)",
         b"(send (tpdst 80) 4)\n",
     )?;
-    let line = check_files(heap, &sources).map_err(|_| Fail::new("refused"))?;
+    let line = check_files(heap, &sources)?;
     assert_eq!(rt; line.as_str(), "5 nodes");
-    let Ok(packet) = packet_of(heap, "dldst=000000000001 dltyp=2048 nwproto=6 tpdst=80") else {
-        return Err(Fail::new("no packet"));
-    };
-    let line = ports_of(heap, &sources, 1, &packet).map_err(|_| Fail::new("refused"))?;
+    let packet = packet_of(heap, "dldst=000000000001 dltyp=2048 nwproto=6 tpdst=80")?;
+    let line = ports_of(heap, &sources, 1, &packet)?;
     assert_eq!(rt; line.as_str(), "ports 1 4");
     Ok(())
 }
@@ -87,17 +83,15 @@ fn words(heap: Global, list: &[&str]) -> Result<Vec<String>, AllocError> {
 #[test]
 fn commands(rt: HostRuntime) -> Result<(), Fail> {
     let heap = rt.alloc();
-    let Ok(
-        Command::Ports {
-            switch,
-            packet: _,
-            files,
-        },
-    ) = command_of(
+    let Command::Ports {
+        switch,
+        packet: _,
+        files,
+    } = command_of(
         heap,
         "ports",
         words(heap, &["--switch", "7", "--packet", "", "--", "--odd"])?,
-    )
+    )?
     else {
         return Err(Fail::new("no ports command"));
     };

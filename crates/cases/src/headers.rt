@@ -18,7 +18,8 @@ const NUMBERS: [[u64; 8]; 6] = [
 
 /// The test of the first bits of a field.
 fn bits(field: Field, value: u64, length: u8) -> Result<Test, Fail> {
-    Test::new(field, value, length).ok_or_else(|| Fail::new("no room for the value or the length"))
+    let test = Test::new(field, value, length).ok_or("no room for the value or the length")?;
+    Ok(test)
 }
 
 /// The test of a field's whole number.
@@ -47,7 +48,7 @@ fn check_hits<K: HeaderKind>(
     expected: &[bool; 6],
 ) -> Result<(), Fail> {
     for (numbers, hit) in NUMBERS.iter().zip(expected) {
-        let packet = Packet::new(numbers).map_err(|_| Fail::new("no packet"))?;
+        let packet = Packet::new(numbers)?;
         assert_eq!(rt; pattern.hits(&packet), *hit);
     }
     Ok(())
@@ -150,13 +151,9 @@ fn several_patterns(rt: HostRuntime) -> Result<(), Fail> {
     let first: FramePattern = pattern(&whole(Field::DlDst, 1)?)?;
     let web: FramePattern = pattern(&whole(Field::TpDst, 80)?)?;
     let shell: FramePattern = pattern(&whole(Field::TpDst, 22)?)?;
-    let Some(nothing) = meet_all::<FramePattern>(&[]) else {
-        return Err(Fail::new("nothing asked, and no packet"));
-    };
+    let nothing = meet_all::<FramePattern>(&[]).ok_or("nothing asked, and no packet")?;
     check_hits(&rt, &nothing, &[true; 6])?;
-    let Some(both) = meet_all(&[web, first, web]) else {
-        return Err(Fail::new("no packet to the first by port 80"));
-    };
+    let both = meet_all(&[web, first, web]).ok_or("no packet to the first by port 80")?;
     check_hits(&rt, &both, &[true, false, false, false, false, false])?;
     assert!(rt; meet_all(&[first, web, shell]).is_none());
     Ok(())

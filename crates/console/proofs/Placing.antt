@@ -1,10 +1,21 @@
 -- Where a place stands in its file: the file is the last that begins there or before.
-use Rattle.std.proofs.Common.{◌≡◌, ℕ, ◌+◌, ◌-◌, ◌<◌, ◌≤◌, Bool, true, false, List, [], ◌∷◌, map, length, get_or, Some, None, Option, IfSome, IsSomeAnd, MatchOption, unwrap_or, ap, subst, arith, Bor}
+use Rattle.std.proofs.Common.{◌≡◌, ℕ, zero, suc, ◌-◌, ◌<◌, ◌≤◌, Bool, true, false, List, [], ◌∷◌, map, length, get_or, slice_get, Some, None, Option, IfSome, IsSomeAnd, MatchOption, sym, ap, ◌∙◌, subst, arith, Bor}
 use Rattle.std.proofs.lemmas.List.{get_or-map, length-map}
-use Rattle.std.specs.Iterator.Runs.{Run, ItemsMapToReversed, AllItemsGive, IsFirstToGive, CallKeepsClosure}
-use Rattle.std.specs.Option.{option_map}
+use Rattle.std.proofs.lemmas.Option.{slice_get-get_or}
+use Rattle.std.specs.Fn.{CalledAt}
+use Rattle.std.specs.Iterator.Runs.{Run, ItemsMapToReversed, NoItemPasses, EndsAtFirstPassing, CallKeepsClosure}
+use Rattle.std.specs.Option.{option_map, option_copied, option_or}
 use Rattle.console.specs.Texts.{LastBegun}
 use denote.Param.Members.{Mut, Called}
+
+module _ {X B : Type 0} (v : X → B) (d : B) where
+  -- what is read of the item at a place, or d where there is none
+  pub read_at : (xs : List X) (k : ℕ) (o : Option (Bor X)) (b : B) → option_copied o ≡ slice_get xs k → MatchOption o (b ≡ d) (λ x. b ≡ v x.now) → b ≡ get_or (map v xs) k d
+  read_at [] k None b e h = h
+  read_at [] k (Some x) b e h = let z : ◌≡◌ {A = ℕ} 0 1 = cc in absurd (omega arith)
+  read_at (y ∷ ys) zero None b e h = let z : ◌≡◌ {A = ℕ} 0 1 = cc in absurd (omega arith)
+  read_at (y ∷ ys) zero (Some x) b e h = let same : x.now ≡ y = cc in h ∙ ap v same
+  read_at (y ∷ ys) (suc k) o b e h = read_at ys k o b e h
 
 some_item : {X : Type 0} (xs : List X) (k : ℕ) → k < length xs → X
 some_item [] k h = absurd (omega arith)
@@ -19,33 +30,49 @@ module _ {X : Type 0} (P : Bor X → Type 0) (Q : X → Type 0) (gives : (x : Bo
   read_and None v e h = absurd h
   read_and (Some x) v e h = let same : x.now ≡ v = cc in subst Q same (gives x h)
 
-module _ {S F X : Type 0} {steps : S → Option (Bor X) → S → Type 0} (g : Mut F (Bor X × Unit {0}) Bool) (f : F) (n : X → ℕ) (byte : ℕ) (xs : List X) (u : Run steps) (back : ItemsMapToReversed u (λ y. y.now) xs)
-    (keeps : CallKeepsClosure g f) (yes : (x : Bor X) → Called g f (x, tt) true f → n x.now ≤ byte) (no : (x : Bor X) → Called g f (x, tt) false f → byte < n x.now) where
+module _ {S F X : Type 0} {steps : S → Option (Bor X) → S → Type 0} (g : Mut F (Bor (Bor X) × Unit {0}) Bool) (f : F) (n : X → ℕ) (byte : ℕ) (xs : List X) (u : Run steps) (back : ItemsMapToReversed u (λ y. y.now) xs)
+    (keeps : CallKeepsClosure g f) (yes : (y : Bor (Bor X)) → Called g f (y, tt) true f → n y.now.now ≤ byte) (no : (y : Bor (Bor X)) → Called g f (y, tt) false f → byte < n y.now.now) where
   start : (k : ℕ) (h : k < length xs) → get_or (map n xs) k 0 ≡ n (get_or xs k (some_item xs k h))
   start k h = get_or-map n xs k (some_item xs k h) 0 h
 
-  -- what `rposition` gives of files at the test whether they begin at a byte or before
-  pub last_begun : (size : ℕ) → size ≡ length xs → (r : Option ℕ) → IfSome r (λ i. i < size) → MatchOption r ((u.whole ≡ true) × AllItemsGive u g f false) (λ i. (i + u.len ≡ size) × IsFirstToGive u g f true false (size - 1 - i)) → LastBegun (map n xs) byte (unwrap_or r 0)
-  last_begun size all None below h = record {
-    begun = λ z. absurd (omega arith);
-    later = λ k past inside.
-        let here : k < length xs = omega (arith, inside, length-map xs n) in
-        let d = some_item xs k here in
-        let reached : length xs - 1 - k < u.len = omega (arith, back.1 h.0) in
-        rw (start k here) (read_if (λ x. Called g f (x, tt) false f) (λ x. byte < n x) no (u.at (length xs - 1 - k)) (get_or xs k d) (back.2 k d here reached) (h.1 keeps (length xs - 1 - k)));
-  }
-  last_begun size all (Some i) below h =
-      let first = h.1 keeps in
-      let place : size - 1 - i ≡ length xs - 1 - i = ap (λ m. m - 1 - i) all in
-      record {
-        begun = λ z.
-            let here : i < length xs = omega arith in
-            let d = some_item xs i here in (
-              omega (arith, length-map xs n),
-              rw (start i here) (read_and (λ x. Called g f (x, tt) true f) (λ x. n x ≤ byte) yes (u.at (length xs - 1 - i)) (get_or xs i d) (back.2 i d here (omega arith)) (subst (λ m. IsSomeAnd (u.at m) (λ x. Called g f (x, tt) true f)) place first.0)),
-            );
-        later = λ k past inside.
-            let here : k < length xs = omega (arith, inside, length-map xs n) in
-            let d = some_item xs k here in
-            rw (start k here) (read_and (λ x. Called g f (x, tt) false f) (λ x. byte < n x) no (u.at (length xs - 1 - k)) (get_or xs k d) (back.2 k d here (omega arith)) (first.1 (length xs - 1 - k) (omega arith)));
-      }
+  passed : (x : Bor X) → CalledAt g f x true f → n x.now ≤ byte
+  passed x c = subst (λ y. n y.now ≤ byte) c.shows (yes c.shown c.called)
+
+  failed : (x : Bor X) → CalledAt g f x false f → byte < n x.now
+  failed x c = subst (λ y. byte < n y.now) c.shows (no c.shown c.called)
+
+  -- what `rfind` gives of files at the test whether they begin at a byte or before, and the first file where it gives none
+  pub last_begun : (r first : Option (Bor X)) → option_copied first ≡ slice_get xs 0 → MatchOption r ((u.whole ≡ true) × NoItemPasses u g f) (EndsAtFirstPassing u g f) → (k : ℕ) × LastBegun (map n xs) byte k × (option_copied (option_or r first) ≡ slice_get xs k)
+  last_begun None first e h = (
+    0,
+    record {
+      begun = λ z. absurd (omega arith);
+      later = λ k past inside.
+          let here : k < length xs = omega (arith, inside, length-map xs n) in
+          let d = some_item xs k here in
+          let reached : length xs - 1 - k < u.len = omega (arith, back.1 h.0) in
+          rw (start k here) (read_if (λ x. CalledAt g f x false f) (λ x. byte < n x) failed (u.at (length xs - 1 - k)) (get_or xs k d) (back.2 k d here reached) (h.1 keeps (length xs - 1 - k)));
+    },
+    e,
+  )
+  last_begun (Some x) first e h =
+      let i = h.0 in
+      let here : length xs - 1 - i < length xs = omega (arith, back.0, h.1) in
+      let place : length xs - 1 - (length xs - 1 - i) ≡ i = omega (arith, back.0, h.1) in
+      let d = some_item xs (length xs - 1 - i) here in
+      let at : option_map (λ y. y.now) (u.at (length xs - 1 - (length xs - 1 - i))) ≡ Some (get_or xs (length xs - 1 - i) d) = back.2 (length xs - 1 - i) d here (omega (arith, back.0, h.1)) in
+      let item : Some x.now ≡ Some (get_or xs (length xs - 1 - i) d) = ap (option_map (λ y. y.now)) (sym h.2 ∙ ap u.at (sym place)) ∙ at in
+      let calls = h.3 keeps in (
+        length xs - 1 - i,
+        record {
+          begun = λ z. (
+            omega (arith, here, length-map xs n),
+            rw (start (length xs - 1 - i) here) (read_and (λ y. CalledAt g f y true f) (λ y. n y ≤ byte) passed (Some x) (get_or xs (length xs - 1 - i) d) item calls.0),
+          );
+          later = λ k past inside.
+              let there : k < length xs = omega (arith, inside, length-map xs n) in
+              let d = some_item xs k there in
+              rw (start k there) (read_and (λ y. CalledAt g f y false f) (λ y. byte < n y) failed (u.at (length xs - 1 - k)) (get_or xs k d) (back.2 k d there (omega (arith, h.1, past))) (calls.1 (length xs - 1 - k) (omega (arith, h.1, past))));
+        },
+        item ∙ sym (slice_get-get_or xs (length xs - 1 - i) d here),
+      )

@@ -1,9 +1,12 @@
 -- The one text of some files, and how a fault in it is told.
-use Rattle.std.specs.Prelude.{◌≡◌, ℕ, ◌-◌, ◌<◌, ◌≤◌, Bool, true, cond, List, [], ◌∷◌, ◌++◌, map, length, take, vec_items, vec_len, string_bytes, codes, ◌==◌, slice_index, slice_index_or, count_by}
+use Rattle.std.specs.Prelude.{◌≡◌, ℕ, ◌-◌, ◌<◌, ◌≤◌, Bool, true, cond, List, [], ◌∷◌, ◌++◌, map, length, take, vec_items, vec_len, string_bytes, codes, ◌==◌, Option, slice_get, slice_index, slice_index_or, count_by}
+use Rattle.std.specs.Option.{option_copied}
+use denote.Ref.{Bor}
 use Rattle.packet.specs.Telling.{told, told_place}
 use Rattle.packet.specs.declared.fault.Fault.{Fault}
 use Rattle.packet.specs.declared.fault.Fault.TheVariants.{Reader, Builder, Host, Switch}
 use Rattle.packet.specs.declared.fault.TextPlace.{TextPlace}
+use Rattle.console.specs.declared.sources.File.{File}
 use Rattle.console.specs.declared.sources.Sources.{Sources}
 
 -- the last line has its end; a file without bytes wants none
@@ -25,6 +28,10 @@ starts_of s = map (λ f. f.start) (vec_items s.files)
 pub record LastBegun (starts : List ℕ) (byte file : ℕ) : Type 0 where
   pub begun : 0 < file → (file < length starts) × (slice_index starts file ≤ byte)
   pub later : (k : ℕ) → file < k → k < length starts → byte < slice_index starts k
+
+-- a file is the one at a place in the list, counted from 0; none past the last
+abbrev pub FileAt : Sources → ℕ → Option (Bor File) → Type 0
+FileAt s k file = option_copied file ≡ slice_get (vec_items s.files) k
 
 abbrev pub line_ends : List ℕ → ℕ
 line_ends bytes = count_by (λ b. b == 10) bytes

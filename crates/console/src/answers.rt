@@ -39,6 +39,7 @@ pub fn check(heap: Global, sources: &Sources) -> Result<String, Failure>
 }
 
 /// Where the policy of some files sends a packet at a switch.
+// Switch and packet apart: a struct of the two would be made for this one call.
 pub fn ports(
     heap: Global,
     sources: &Sources,

@@ -36,8 +36,9 @@ enum Due {
 }
 
 /// The options and files of a command, word by word.
-#[derive(Drop)]
+#[derive(Debug, Drop)]
 struct Options {
+    // A state of the reading: words are taken one by one, and `help` never asks whether the last option has its value.
     due: Due,
     switch: Option<u16>,
     packet: Option<Packet>,
@@ -139,9 +140,9 @@ impl Options {
         ensures { MatchResult result (Follows (codes "ports") (asked self)) (Because (Lacks (codes "ports") (asked self))) }
     {
         self.finish(heap, "ports")?;
-        let Some(packet) = self.packet else {
-            return Err(told(format!(in heap; "yarnbrick: ports wants --packet \"FIELD=V ..\"")));
-        };
+        let packet = self.packet.ok_or_else(|| {
+            told(format!(in heap; "yarnbrick: ports wants --packet \"FIELD=V ..\""))
+        })?;
         Ok(Command::Ports {
             switch: self.switch.unwrap_or(1),
             packet,

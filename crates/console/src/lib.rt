@@ -1,6 +1,7 @@
 //! What the program is asked and what it answers, as text: arguments, packets as people type them, policy files read
-//! as one text, and the lines of each command. What allocates is handed the allocator, as in the library.
+//! as one text, and the lines of each command.
 #![tactic(auto)]
+// The allocator goes into each call that allocates (`heap: Global`): the library hands it down likewise.
 
 mod answers;
 mod arguments;

@@ -8,7 +8,7 @@ use std::alloc::Global;
 use text::{field_of, value_of};
 
 /// The numbers of a packet that is being typed, each once it has been given.
-#[derive(Clone, Copy)]
+#[derive(Clone, Copy, PartialEq, Eq, Debug)]
 struct Typed {
     numbers: [Option<u64>; 8],
 }
@@ -18,17 +18,15 @@ impl Typed {
     fn add(&mut self, heap: Global, word: &str) -> Result<(), Failure>
         ensures { MatchResult result (λ _. Adds word.now self.old self.new) (AddsNone word.now self.old) }
     {
-        let Some((name, value)) = word.split_once('=') else {
-            return Err(told(format!(in heap;
-                "yarnbrick: a packet is given by words FIELD=V, not '{word}'"
-            )));
-        };
-        let Some(field) = field_of(name.as_bytes()) else {
-            return Err(told(format!(in heap; "yarnbrick: a packet has no field '{name}'")));
-        };
-        let Some(number) = value_of(field, value.as_bytes()) else {
-            return Err(told(format!(in heap; "yarnbrick: '{value}' is no value of {name}")));
-        };
+        let (name, value) = word.split_once('=').ok_or_else(|| {
+            told(format!(in heap; "yarnbrick: a packet is given by words FIELD=V, not '{word}'"))
+        })?;
+        let field = field_of(name.as_bytes()).ok_or_else(|| {
+            told(format!(in heap; "yarnbrick: a packet has no field '{name}'"))
+        })?;
+        let number = value_of(field, value.as_bytes()).ok_or_else(|| {
+            told(format!(in heap; "yarnbrick: '{value}' is no value of {name}"))
+        })?;
         let place = field.place();
         if self.numbers[place].is_some() {
             return Err(told(format!(in heap; "yarnbrick: {name} is given twice")));

@@ -1,13 +1,13 @@
-ghost use Rattle.std.specs.Prelude.{◌≡◌, [], ◌∷◌, ◌++◌, length, vec_items, IfOk, string_bytes, OnOk};
+ghost use Rattle.std.specs.Prelude.{◌≡◌, ℕ, [], ◌∷◌, ◌++◌, length, vec_items, IfOk, string_bytes, OnOk};
 ghost use Rattle.packet.specs.Telling.{told};
-ghost use Rattle.console.specs.Texts.{LastBegun, Tells, beside, ended, ends_line, file_name, in_file, line_ends, starts_of, text_of};
+ghost use Rattle.console.specs.Texts.{FileAt, LastBegun, Tells, beside, ended, ends_line, file_name, in_file, line_ends, starts_of, text_of};
 
 use crate::failure::Failure;
 use packet::{Fault, TextPlace};
 use std::alloc::{AllocError, Global};
 
 /// A policy file.
-#[derive(Drop)]
+#[derive(Debug, Drop)]
 struct File {
     name: String,
     /// The byte of the whole text at which the file begins.
@@ -15,7 +15,7 @@ struct File {
 }
 
 /// Policy files read as one text, in the order given.
-#[derive(Drop)]
+#[derive(Debug, Drop)]
 pub struct Sources {
     files: Vec<File>,
     text: Vec<u8>,
@@ -75,42 +75,34 @@ impl Sources {
     fn tell_in_file(
         &self,
         heap: Global,
-        file: usize,
+        file: Option<&File>,
         local: &Fault,
         whole: &TextPlace,
     ) -> Result<String, AllocError>
-        ensures { IfOk result (λ line. string_bytes line ≡ told local.now ++ beside self.now file whole.now) }
+        ensures { IfOk result (λ line. (k : ℕ) → FileAt self.now k file.entry → string_bytes line ≡ told local.now ++ beside self.now k whole.now) }
     {
-        let name = self.name_of(file);
+        let name = file.map_or("no file", |file| file.name.as_str());
         if self.files.len() == 1 {
             return format!(in heap; "{local} ({name})");
         }
         format!(in heap; "{local} ({name}; {whole} of the whole text)")
     }
 
-    fn name_of(&self, file: usize) -> &str
-        ensures { result.now ≡ file_name self.now file }
-    {
-        self.files
-            .get(file)
-            .map_or("no file", |file| file.name.as_str())
-    }
-
-    /// The number of the file that a place is in: the last that begins there or before.
-    fn file_of(&self, place: &TextPlace) -> usize
-        ensures { LastBegun (starts_of self.now) place.now.byte result }
+    /// The file that a place is in: the last that begins there or before, else the first.
+    fn file_of(&self, place: &TextPlace) -> Option<&File>
+        ensures { (k : ℕ) × LastBegun (starts_of self.now) place.now.byte k × FileAt self.now k result }
     {
         self.files
             .iter()
-            .rposition(|file| file.start <= place.byte)
-            .unwrap_or(0)
+            .rfind(|file| file.start <= place.byte)
+            .or(self.files.first())
     }
 
     /// A place counted in a file.
-    fn in_file(&self, file: usize, place: &TextPlace) -> TextPlace
-        ensures { result ≡ in_file self.now file place.now }
+    fn in_file(&self, file: Option<&File>, place: &TextPlace) -> TextPlace
+        ensures { (k : ℕ) → FileAt self.now k file.entry → result ≡ in_file self.now k place.now }
     {
-        let start = self.files.get(file).map_or(0, |file| file.start);
+        let start = file.map_or(0, |file| file.start);
         let text = self.text();
         let before = text.get(..start).unwrap_or(text);
         TextPlace {

@@ -22,11 +22,9 @@ fn gather(rt: &HostRuntime, files: Vec<String>) -> Result<Sources, Failure> {
 fn answer(rt: &HostRuntime) -> Result<String, Failure> {
     let heap = rt.alloc();
     let mut words = env::args(rt)?.skip(1);
-    let Some(name) = words.next() else {
-        return Err(Failure::Told(format!(in heap;
-            "yarnbrick: no command; 'yarnbrick help' lists them"
-        )?));
-    };
+    let name = words.next().try_ok_or_else(|| {
+        Ok(Failure::Told(format!(in heap; "yarnbrick: no command; 'yarnbrick help' lists them")?))
+    })?;
     let words = words.collect(heap)?;
     match console::command_of(heap, name.as_str(), words)? {
         Command::Help => Ok(String::from_str(heap, console::HELP)?),
