@@ -10,9 +10,9 @@ use Rattle.text.specs.Newest.{newest}
 use Rattle.text.specs.Numbered.{numbered}
 use Rattle.text.specs.Steps.{Reading, Part}
 use Rattle.text.specs.declared.due.Part as code
-use Rattle.text.specs.declared.state.State.{State}
+use Rattle.text.specs.declared.state.State.TheInside.{Inside}
 
-abbrev pub reading : State → Reading
+abbrev pub reading : Inside → Reading
 reading s = record {
   brackets = map due_of (newest s.brackets);
   nodes = map shape (newest s.nodes);

@@ -4,7 +4,7 @@ ghost use Rattle.text.specs.Bytes.{byte_class};
 ghost use Rattle.text.specs.Reads.{Answer, Grammatical};
 ghost use Rattle.text.specs.Steps.{answered};
 ghost use Rattle.text.specs.Text.{in_word, token, on_token, ending, item_lines, read_text};
-ghost use Rattle.text.specs.View.{reading, made_of};
+ghost use Rattle.text.specs.View.{made_of};
 
 use crate::class::Class;
 use crate::state::State;
@@ -15,7 +15,7 @@ impl State {
     /// One item of the text, by the class of its first byte.
     fn take(&mut self, item: &[u8]) -> Result<(), ReaderCause>
         requires { 0 < length item.now }
-        ensures { on_token (reading self.old) (token (byte_class (slice_index item.now 0)) item.now) ≡ answered result (reading self.new) }
+        ensures { on_token self.old (token (byte_class (slice_index item.now 0)) item.now) ≡ answered result self.new }
     {
         match Class::from(item[0]) {
             Class::Opening => self.open(),
@@ -29,7 +29,7 @@ impl State {
 
     /// The nodes, at the end of the text; none where it has no form.
     fn finish(self) -> Result<Option<Bounded<Node, 64>>, ReaderCause>
-        ensures { ending (reading self) ≡ made_of result }
+        ensures { ending self ≡ made_of result }
     {
         if self.brackets.len() > 0 {
             return Err(ReaderCause::Word);

@@ -2,9 +2,10 @@
 use crate::due::Due;
 use packet::Bounded;
 use policy::Node;
+use std::marker::Model;
 
 /// What has been read so far.
-#[derive(Clone, Copy)]
+#[derive(Drop)]
 pub struct State {
     /// What each open bracket waits for, the innermost last.
     pub brackets: Bounded<Due, 16>,
@@ -15,4 +16,14 @@ pub struct State {
     pub formed: bool,
     /// Whether a form has closed before, so that the next is joined to it.
     pub joins: bool,
+}
+
+impl Model for State {
+    ghost use Rattle.text.specs.Steps.{Reading};
+
+    ghost Value = { Reading };
+
+    ghost use Rattle.text.specs.View.{reading};
+
+    ghost view = { reading };
 }

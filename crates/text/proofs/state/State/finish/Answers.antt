@@ -11,11 +11,11 @@ use Rattle.text.proofs.state.State.finish.Goals as goal
 
 pub returns-then-len-gt0 : goal.returns-then-len-gt0
 returns-then-len-gt0 c =
-    let s = c.args.self in
-    finish_inside (reading s) (omega (arith, length-map (newest s.brackets) due_of, length_newest s.brackets))
+    let s = c.self.inside in
+    rw (← c.self.view_is) (finish_inside (reading s) (omega (arith, length-map (newest s.brackets) due_of, length_newest s.brackets)))
 
 pub returns : goal.returns
 returns c =
-    let s = c.args.self in
-    finish_outside (reading s) s.nodes (ap (map due_of) (nil_from_length (newest s.brackets) (omega (arith, length_newest s.brackets)))) (oldest_first shape s.nodes)
-    ∙ ap (λ o. made_of (Ok o)) (sym c.then_some.ensures)
+    let s = c.self.inside in
+    rw (← c.self.view_is) (finish_outside (reading s) s.nodes (ap (map due_of) (nil_from_length (newest s.brackets) (omega (arith, length_newest s.brackets)))) (oldest_first shape s.nodes)
+    ∙ ap (λ o. made_of (Ok o)) (sym c.then_some.ensures))
