@@ -4,9 +4,11 @@ use packet::Bounded;
 use policy::Node;
 use std::marker::Model;
 
-/// What has been read so far.
+/// What has been read so far; contracts see the reading that it stands for.
+// No derived `==`: `Due` has none.
 #[derive(Drop)]
 pub struct State {
+    // A stack with a dispatch on its top, and not calls within calls: it takes fixed memory and has room for 16 brackets.
     /// What each open bracket waits for, the innermost last.
     pub brackets: Bounded<Due, 16>,
     /// The nodes made.

@@ -17,6 +17,7 @@ use policy::{Kind, Node};
 const MOST_PORTS: usize = 8;
 
 /// The first part of a bracket, and what is due after it.
+// The kinds are those of `Node::parts`, but a send has no node to ask before its bracket closes: see `Op`.
 fn first_part(op: Op) -> Part
     ensures { part_due (due_of (Due.First op)) ≡ Some (owed result) }
 {
@@ -41,6 +42,7 @@ fn first_part(op: Op) -> Part
 }
 
 /// The second part of a bracket, if its head has one.
+// The kinds are those of `Node::parts`, by the head as in `first_part`.
 fn second_part(op: Op) -> Option<Part>
     ensures { part_due (due_of (Due.Second op)) ≡ map_some owed result }
 {
