@@ -15,7 +15,7 @@ use Rattle.text.specs.Reads.{Refused, ReadsAs}
 use Rattle.text.specs.Text.{fault, read_text, tokens}
 use Rattle.text.proofs.Clash.{err_ok}
 use Rattle.text.proofs.Complete.{complete}
-use Rattle.text.proofs.Leaves.{leaves, same_tree}
+use Rattle.text.proofs.Leaves.{leaves, policy_numbered, same_tree}
 use Rattle.text.proofs.Sound.{sound}
 use Rattle.text.proofs.Stopping.{stops}
 
@@ -51,7 +51,7 @@ reads_as text p e =
     let s = sound text (shapes_of p) e in
     let q = s.0 in
     let is : tree_of p ≡ q = tree_from p q (ap stack_of s.2 ∙ leaves q) in
-    let order : shapes_of p ≡ numbered (tree_of p) = s.2 ∙ ap numbered (sym is) in
+    let order : shapes_of p ≡ numbered (tree_of p) = policy_numbered p in
     let again : (r : Pol) → Writes text r → Ok (numbered r) ≡ Ok (numbered (tree_of p)) = λ r w. sym (complete text r w) ∙ (e ∙ ap Ok order) in
     record {
       writes = subst (Writes text) (sym is) s.1;

@@ -1,19 +1,21 @@
 -- Reading on past the first item, and the end of the text.
-use Rattle.std.proofs.Common.{◌≡◌, ℕ, ◌+◌, ◌<◌, ◌≤◌, true, false, List, [], ◌∷◌, ◌++◌, reverse, length, get_or, Ok, Err, Result, sym, refl, ap, ◌∙◌, arith}
+use Rattle.std.proofs.Common.{◌≡◌, ℕ, ◌+◌, ◌<◌, ◌≤◌, Bool, true, false, cond, List, [], ◌∷◌, ◌++◌, reverse, length, get_or, Some, None, Ok, Err, Option, Result, sym, refl, ap, ◌∙◌, arith}
+use Rattle.std.specs.Bool.{then_some}
 use Rattle.std.specs.List.{IsChunkByPrefix}
 use Rattle.std.specs.Result.{IsErrAnd, MatchResult}
-use Rattle.std.proofs.lemmas.Bool.{cond-true, cond-false}
 use Rattle.packet.specs.declared.fault.Fault.{Fault}
 use Rattle.packet.specs.declared.fault.ReaderCause.{ReaderCause}
 use Rattle.packet.specs.declared.fault.ReaderCause.TheVariants.{Word}
 use Rattle.text.specs.Bytes.{byte_class}
-use Rattle.policy.specs.Shapes.Shape.{n_any, n_send}
+use Rattle.policy.specs.Finishing.{empty_tree}
+use Rattle.policy.specs.Shapes.{Shape}
 use Rattle.text.specs.Dues.{Due}
+use Rattle.text.specs.Numbered.{numbered}
 use Rattle.text.specs.Steps.{Reading, and_then, answered}
 use Rattle.text.specs.Text.{Token, token, tokens, on_token, ending, ending_on, at_place, read_on, size, item_lines, fault}
 use Rattle.packet.specs.declared.bounded.Bounded.{Bounded}
 use Rattle.policy.specs.declared.node.Node.{Node}
-use Rattle.text.specs.View.{made_of}
+use Rattle.text.specs.View.{made_of, shapes_in}
 use Rattle.std.proofs.lemmas.Bool.Decides.{nat_tests}
 use Rattle.text.proofs.Clash.{err_ok}
 use Rattle.text.proofs.Runs.{chunk_token, lines_first, together}
@@ -26,13 +28,14 @@ pub finish_inside : (s : Reading) → 0 < length s.brackets → ending s ≡ Err
 unfolding ending
 finish_inside s h = ends_held s s.brackets h
 
-pub finish_joins : (s : Reading) → s.brackets ≡ [] → s.joins ≡ true → ending s ≡ Ok (reverse s.nodes)
+-- outside brackets, the nodes of what was read, or none where there is no form
+pub finish_outside : (s : Reading) (b : Bounded Node 64) → s.brackets ≡ [] → reverse s.nodes ≡ shapes_in b → ending s ≡ made_of {E = ReaderCause} (Ok (then_some s.joins b))
 unfolding ending
-finish_joins s e j = ap (ending_on s) e ∙ ap Ok (cond-true s.joins (reverse s.nodes) (n_any ∷ n_send [] ∷ []) j)
-
-pub finish_empty : (s : Reading) → s.brackets ≡ [] → s.joins ≡ false → ending s ≡ Ok (n_any ∷ n_send [] ∷ [])
-unfolding ending
-finish_empty s e j = ap (ending_on s) e ∙ ap Ok (cond-false s.joins (reverse s.nodes) (n_any ∷ n_send [] ∷ []) j)
+finish_outside s b e is = ap (ending_on s) e ∙ go s.joins
+  where
+    go : (j : Bool) → ◌≡◌ {A = Result (List Shape) ReaderCause} (Ok (cond j (reverse s.nodes) (numbered empty_tree))) (made_of {E = ReaderCause} (Ok (then_some j b)))
+    go true = ap Ok is
+    go false = refl
 
 -- what a call answers, as a fault at the place where it was made
 pub placed : {A : Type 0} (line byte : ℕ) (r : Result A ReaderCause) (q : Result A Fault) (P : ReaderCause → Fault → Type 0) → MatchResult r (λ x. q ≡ Ok x) (λ e. IsErrAnd q (P e)) → ((e : ReaderCause) (f : Fault) → P e f → f ≡ fault line byte e) → q ≡ at_place line byte r
@@ -41,8 +44,9 @@ placed line byte (Err e) (Ok x) P h k = absurd h
 placed line byte (Err e) (Err f) P h k = ap Err (k e f h)
 
 -- nodes that are handed on
-pub made_placed : (line byte : ℕ) (r : Result (Bounded Node 64) ReaderCause) → made_of (at_place line byte r) ≡ at_place line byte (made_of r)
-made_placed line byte (Ok b) = refl
+pub made_placed : (line byte : ℕ) (r : Result (Option (Bounded Node 64)) ReaderCause) → made_of (at_place line byte r) ≡ at_place line byte (made_of r)
+made_placed line byte (Ok None) = refl
+made_placed line byte (Ok (Some b)) = refl
 made_placed line byte (Err e) = refl
 
 pub one_line : (w : List ℕ) → item_lines w ≤ 1

@@ -3,6 +3,7 @@ use packet::{Field, Ports};
 use policy::{Kind, Node};
 
 /// The heads whose brackets hold other brackets.
+// Not a node with a place among its `Node::parts`: a send's ports come between its part and its end, so it has no node to ask before its bracket closes.
 #[derive(Clone, Copy, PartialEq, Eq, Debug)]
 pub enum Op {
     And,
@@ -14,6 +15,7 @@ pub enum Op {
 }
 
 /// What an open bracket waits for.
+// No derived `==` here nor at `Part`: `Ports` has none, since its list has unused places.
 #[derive(Clone, Copy)]
 pub enum Due {
     /// A head word of that kind.
@@ -22,6 +24,7 @@ pub enum Due {
     Switch,
     /// A value of the field.
     Value(Field),
+    // The two below go by the head and not by a node: see `Op`.
     /// The first bracket inside.
     First(Op),
     /// The second bracket inside.

@@ -4,18 +4,18 @@ ghost use Rattle.text.specs.Bytes.{byte_class};
 ghost use Rattle.text.specs.Reads.{Answer, Grammatical};
 ghost use Rattle.text.specs.Steps.{answered};
 ghost use Rattle.text.specs.Text.{in_word, token, on_token, ending, item_lines, read_text};
-ghost use Rattle.text.specs.View.{reading, made_of};
+ghost use Rattle.text.specs.View.{made_of};
 
 use crate::class::Class;
 use crate::state::State;
-use packet::{Bounded, Fault, Ports, ReaderCause, TextPlace};
+use packet::{Bounded, Fault, ReaderCause, TextPlace};
 use policy::{Node, Policy};
 
 impl State {
     /// One item of the text, by the class of its first byte.
     fn take(&mut self, item: &[u8]) -> Result<(), ReaderCause>
         requires { 0 < length item.now }
-        ensures { on_token (reading self.old) (token (byte_class (slice_index item.now 0)) item.now) ≡ answered result (reading self.new) }
+        ensures { on_token self.old (token (byte_class (slice_index item.now 0)) item.now) ≡ answered result self.new }
     {
         match Class::from(item[0]) {
             Class::Opening => self.open(),
@@ -27,20 +27,14 @@ impl State {
         }
     }
 
-    /// The nodes, at the end of the text.
-    fn finish(self) -> Result<Bounded<Node, 64>, ReaderCause>
-        ensures { ending (reading self) ≡ made_of result }
+    /// The nodes, at the end of the text; none where it has no form.
+    fn finish(self) -> Result<Option<Bounded<Node, 64>>, ReaderCause>
+        ensures { ending self ≡ made_of result }
     {
         if self.brackets.len() > 0 {
             return Err(ReaderCause::Word);
         }
-        if self.joins {
-            return Ok(self.nodes);
-        }
-        let mut nodes = Bounded::new(Node::Any);
-        nodes.push(Node::Any).unwrap();
-        nodes.push(Node::Send(Ports::none())).unwrap();
-        Ok(nodes)
+        Ok(self.joins.then_some(self.nodes))
     }
 }
 
@@ -68,8 +62,8 @@ fn past(place: TextPlace, item: &[u8]) -> TextPlace
     }
 }
 
-/// The nodes of a policy text, or its first fault.
-fn nodes_of(text: &[u8]) -> Result<Bounded<Node, 64>, Fault>
+/// The nodes of a policy text, none where it has no form, or its first fault.
+fn nodes_of(text: &[u8]) -> Result<Option<Bounded<Node, 64>>, Fault>
     ensures { made_of result ≡ read_text text.now }
 {
     let mut state = State::new();
@@ -91,6 +85,9 @@ pub fn read(place: &mut Policy, text: &[u8]) -> Result<(), Fault>
     ensures grammar { Grammatical text.now result place.new }
 {
     let nodes = nodes_of(text)?;
-    *place = Policy::from_nodes(nodes).unwrap();
+    *place = match nodes {
+        Some(nodes) => Policy::from_nodes(nodes).unwrap(),
+        None => Policy::empty(),
+    };
     Ok(())
 }

@@ -2,10 +2,13 @@
 use crate::due::Due;
 use packet::Bounded;
 use policy::Node;
+use std::marker::Model;
 
-/// What has been read so far.
-#[derive(Clone, Copy)]
+/// What has been read so far; contracts see the reading that it stands for.
+// No derived `==`: `Due` has none.
+#[derive(Drop)]
 pub struct State {
+    // A stack with a dispatch on its top, and not calls within calls: it takes fixed memory and has room for 16 brackets.
     /// What each open bracket waits for, the innermost last.
     pub brackets: Bounded<Due, 16>,
     /// The nodes made.
@@ -15,4 +18,14 @@ pub struct State {
     pub formed: bool,
     /// Whether a form has closed before, so that the next is joined to it.
     pub joins: bool,
+}
+
+impl Model for State {
+    ghost use Rattle.text.specs.Steps.{Reading};
+
+    ghost Value = { Reading };
+
+    ghost use Rattle.text.specs.View.{reading};
+
+    ghost view = { reading };
 }

@@ -4,7 +4,7 @@ ghost use Rattle.policy.specs.Shapes.{shape};
 ghost use Rattle.text.specs.Dues.{due_of};
 ghost use Rattle.text.specs.Newest.{newest};
 ghost use Rattle.text.specs.Steps.{answered, map_some, map_ok, part_due, closes, head_due, fill, grown, closed, start, opening, closing, line_ending, wording};
-ghost use Rattle.text.specs.View.{reading, owed};
+ghost use Rattle.text.specs.View.{owed};
 
 use crate::due::{Due, Op, Part};
 use crate::head::field_of;
@@ -17,6 +17,7 @@ use policy::{Kind, Node};
 const MOST_PORTS: usize = 8;
 
 /// The first part of a bracket, and what is due after it.
+// The kinds are those of `Node::parts`, but a send has no node to ask before its bracket closes: see `Op`.
 fn first_part(op: Op) -> Part
     ensures { part_due (due_of (Due.First op)) ≡ Some (owed result) }
 {
@@ -41,6 +42,7 @@ fn first_part(op: Op) -> Part
 }
 
 /// The second part of a bracket, if its head has one.
+// The kinds are those of `Node::parts`, by the head as in `first_part`.
 fn second_part(op: Op) -> Option<Part>
     ensures { part_due (due_of (Due.Second op)) ≡ map_some owed result }
 {
@@ -126,7 +128,7 @@ fn predicate_head(w: &[u8]) -> Option<Due>
 impl State {
     /// Nothing has been read.
     pub fn new() -> State
-        ensures { reading result ≡ start }
+        ensures { result ≡ start }
     {
         State {
             brackets: Bounded::new(Due::Switch),
@@ -138,7 +140,7 @@ impl State {
 
     /// An opening bracket: the line's form, or a part that is due.
     pub fn open(&mut self) -> Result<(), ReaderCause>
-        ensures { opening (reading self.old) ≡ answered result (reading self.new) }
+        ensures { opening self.old ≡ answered result self.new }
     {
         let Some(d) = self.brackets.pop() else {
             if self.formed {
@@ -158,7 +160,7 @@ impl State {
 
     /// A line end, outside brackets only.
     pub fn line_end(&mut self) -> Result<(), ReaderCause>
-        ensures { line_ending (reading self.old) ≡ answered result (reading self.new) }
+        ensures { line_ending self.old ≡ answered result self.new }
     {
         if self.brackets.len() > 0 {
             return Err(ReaderCause::Word);
@@ -169,7 +171,7 @@ impl State {
 
     /// A closing bracket, which makes its node.
     pub fn close(&mut self) -> Result<(), ReaderCause>
-        ensures { closing (reading self.old) ≡ answered result (reading self.new) }
+        ensures { closing self.old ≡ answered result self.new }
     {
         let Some(d) = self.brackets.pop() else {
             return Err(ReaderCause::Word);
@@ -186,8 +188,8 @@ impl State {
 
     /// The last bracket of a form has closed: the form is joined to the forms before it.
     fn end_form(&mut self) -> Result<(), ReaderCause>
-        requires { newest self.old.brackets ≡ [] }
-        ensures { closed (reading self.old) (reading self.old).nodes [] ≡ answered result (reading self.new) }
+        requires { self.old.brackets ≡ [] }
+        ensures { closed self.old self.old.nodes [] ≡ answered result self.new }
     {
         if self.joins {
             add_node(&mut self.nodes, Node::Both)?;
@@ -199,7 +201,7 @@ impl State {
 
     /// A word, for the innermost bracket.
     pub fn word(&mut self, w: &[u8]) -> Result<(), ReaderCause>
-        ensures { wording (reading self.old) w.now ≡ answered result (reading self.new) }
+        ensures { wording self.old w.now ≡ answered result self.new }
     {
         let Some(d) = self.brackets.pop() else {
             return Err(ReaderCause::Word);

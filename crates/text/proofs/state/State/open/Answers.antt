@@ -20,23 +20,23 @@ use Rattle.text.proofs.state.State.open.Goals as goal
 
 pub returns-then-self : goal.returns-then-self
 returns-then-self c =
-    let s = c.args.self.now in
-    open_formed (reading s) (ap (map due_of) (newest_empty s.brackets c.pop.new.self c.in_default.ensures).0) c.if-self.true
+    let s = c.self.inside in
+    rw (← c.self.view_is) (open_formed (reading s) (ap (map due_of) (newest_empty s.brackets c.pop.new.self c.in_default.ensures).0) c.if-self.true)
 
 pub returns-in_default : goal.returns-in_default
 returns-in_default c =
-    let s = c.args.self.now in
+    let s = c.self.inside in
     let left = c.pop.new.self in
     let new = c.push.new.self in
     let none = newest_empty s.brackets left c.in_default.ensures in
     let put : newest new ≡ Head Policy ∷ newest left = newest_push left new (Head Policy) c.push.result c.push.ensures (omega (arith, ap length c.in_default.ensures.1)) in
-    open_form (reading s) (ap (map due_of) none.0) (map due_of (newest new)) c.if-self.false (ap (map due_of) put ∙ ap (λ x. d_head Policy ∷ map due_of x) none.1)
+    rw (← c.self.view_is) (open_form (reading s) (ap (map due_of) none.0) (map due_of (newest new)) c.if-self.false (ap (map due_of) put ∙ ap (λ x. d_head Policy ∷ map due_of x) none.1))
 
 pub returns-in_default-part_of : goal.returns-in_default-part_of
 returns-in_default-part_of c =
-    let s = c.args.self.now in
+    let s = c.self.inside in
     let left = c.pop.new.self in
-    open_no (reading s) (due_of c.in-Some.d) (newest left) (ap (map due_of) (newest_pop s.brackets left c.in-Some.d c.in-Some.ensures)) c.in_default-part_of.ensures
+    rw (← c.self.view_is) (open_no (reading s) (due_of c.in-Some.d) (newest left) (ap (map due_of) (newest_pop s.brackets left c.in-Some.d c.in-Some.ensures)) c.in_default-part_of.ensures)
 
 -- what is due inside goes on what is due after it, unless 16 brackets are open
 opens : {N : ℕ} → N ≡ 16 → (s : Reading) (left once twice : Bounded Due N) (d : Due) (next : Part) (r : Result (Unit {0}) Full) → s.brackets ≡ map due_of (d ∷ newest left) → part_due (due_of d) ≡ Some (owed next) → newest once ≡ next.after ∷ newest left → Pushed (items_of once) (Head next.kind) N r (items_of twice) → opening s ≡ answered (result_or r (Err Depth)) (with_brackets s (map due_of (newest twice)))
@@ -51,11 +51,11 @@ opens sixteen s left once twice d next (Err e) top due first p =
 
 pub returns : goal.returns
 returns c =
-    let s = c.args.self.now in
+    let s = c.self.inside in
     let left = c.pop.new.self in
     let once = c.push-2.new.self in
     let twice = c.push-3.new.self in
     let next = c.in-Some-part_of.part in
     let first = newest_push left once next.after c.push-2.result c.push-2.ensures (room_below s.brackets left c.in-Some.d c.in-Some.ensures) in
-    opens (omega arith) (reading s) left once twice c.in-Some.d next c.push-3.result (ap (map due_of) (newest_pop s.brackets left c.in-Some.d c.in-Some.ensures)) c.in-Some-part_of.ensures first c.push-3.ensures
-    ∙ ap (λ r. answered r (with_brackets (reading s) (map due_of (newest twice)))) (sym c.or.ensures)
+    rw (← c.self.view_is) (opens (omega arith) (reading s) left once twice c.in-Some.d next c.push-3.result (ap (map due_of) (newest_pop s.brackets left c.in-Some.d c.in-Some.ensures)) c.in-Some-part_of.ensures first c.push-3.ensures
+    ∙ ap (λ r. answered r (with_brackets (reading s) (map due_of (newest twice)))) (sym c.or.ensures))
