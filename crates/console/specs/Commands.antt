@@ -10,7 +10,7 @@ use Rattle.console.specs.declared.arguments.Command.{Command}
 use Rattle.console.specs.declared.arguments.Command.TheVariants.{Help, Check, Ports}
 use Rattle.console.specs.declared.arguments.Due.{Due}
 use Rattle.console.specs.declared.arguments.Due.TheVariants as due
-use Rattle.console.specs.declared.arguments.Options.{Options}
+use Rattle.console.specs.declared.arguments.Options.TheInside.{Inside}
 use Rattle.console.specs.declared.failure.Failure.{Failure}
 use Rattle.console.specs.declared.failure.Failure.TheVariants.{Told, System, Memory}
 
@@ -27,7 +27,7 @@ names_of files = map string_bytes (vec_items files)
 abbrev pub nothing : Asked
 nothing = record { next = due.Any; switch = None; packet = None; files = [] }
 
-abbrev pub asked : Options → Asked
+abbrev pub asked : Inside → Asked
 asked o = record { next = o.due; switch = o.switch; packet = o.packet; files = names_of o.files }
 
 -- the same, but for what the next word is

@@ -1,11 +1,12 @@
 ghost use Rattle.std.specs.Prelude.{◌≡◌, Some, None, string_bytes, codes, MatchResult};
-ghost use Rattle.console.specs.Commands.{Asks, AsksNone, Because, Complete, Follows, Lacks, NoOption, Stops, Stuck, Takes, TakesAll, TakesAny, asked, names_of, nothing};
+ghost use Rattle.console.specs.Commands.{Asks, AsksNone, Because, Complete, Follows, Lacks, NoOption, Stops, Stuck, Takes, TakesAll, TakesAny, names_of, nothing};
 ghost use Rattle.text.specs.Values.{numeral};
 
 use crate::failure::{Failure, told};
 use crate::packets::packet_of;
 use packet::Packet;
 use std::alloc::Global;
+use std::marker::Model;
 use text::number_of;
 
 /// What was asked for.
@@ -45,9 +46,18 @@ struct Options {
     files: Vec<String>,
 }
 
+/// What has been asked so far, and what the next word is.
+impl Model for Options {
+    ghost use Rattle.console.specs.Commands.{Asked, asked};
+
+    ghost Value = { Asked };
+
+    ghost view = { asked };
+}
+
 impl Options {
     fn new(heap: Global) -> Options
-        ensures { asked result ≡ nothing }
+        ensures { result ≡ nothing }
     {
         Options {
             due: Due::Any,
@@ -59,7 +69,7 @@ impl Options {
 
     /// All words, one after another.
     fn from_words(heap: Global, words: Vec<String>) -> Result<Options, Failure>
-        ensures { MatchResult result (λ o. TakesAll nothing (names_of words) (asked o)) (Because (Stops nothing (names_of words))) }
+        ensures { MatchResult result (λ o. TakesAll nothing (names_of words) o) (Because (Stops nothing (names_of words))) }
     {
         let mut options = Options::new(heap);
         for word in words {
@@ -69,7 +79,7 @@ impl Options {
     }
 
     fn add(&mut self, heap: Global, word: String) -> Result<(), Failure>
-        ensures { MatchResult result (λ _. Takes (asked self.old) (string_bytes word) (asked self.new)) (Because (Stuck self.old.due (string_bytes word))) }
+        ensures { MatchResult result (λ _. Takes self.old (string_bytes word) self.new) (Because (Stuck self.old.next (string_bytes word))) }
     {
         match self.due {
             Due::Any => self.add_any(heap, word),
@@ -91,7 +101,7 @@ impl Options {
     }
 
     fn add_any(&mut self, heap: Global, word: String) -> Result<(), Failure>
-        ensures { MatchResult result (λ _. TakesAny (asked self.old) (string_bytes word) (asked self.new)) (Because (NoOption (string_bytes word))) }
+        ensures { MatchResult result (λ _. TakesAny self.old (string_bytes word) self.new) (Because (NoOption (string_bytes word))) }
     {
         match word.as_str() {
             "--" => self.due = Due::File,
@@ -109,7 +119,7 @@ impl Options {
 
     /// All words have been added: whether the last option has its value, and there is a file.
     fn finish(&self, heap: Global, command: &str) -> Result<(), Failure>
-        ensures { MatchResult result (λ _. Complete (asked self.now)) (Because (Complete (asked self.now) → ⊥)) }
+        ensures { MatchResult result (λ _. Complete self.now) (Because (Complete self.now → ⊥)) }
     {
         match self.due {
             Due::Switch => {
@@ -127,7 +137,7 @@ impl Options {
     }
 
     fn check(self, heap: Global) -> Result<Command, Failure>
-        ensures { MatchResult result (Follows (codes "check") (asked self)) (Because (Lacks (codes "check") (asked self))) }
+        ensures { MatchResult result (Follows (codes "check") self) (Because (Lacks (codes "check") self)) }
     {
         self.finish(heap, "check")?;
         if self.switch.is_some() || self.packet.is_some() {
@@ -137,7 +147,7 @@ impl Options {
     }
 
     fn ports(self, heap: Global) -> Result<Command, Failure>
-        ensures { MatchResult result (Follows (codes "ports") (asked self)) (Because (Lacks (codes "ports") (asked self))) }
+        ensures { MatchResult result (Follows (codes "ports") self) (Because (Lacks (codes "ports") self)) }
     {
         self.finish(heap, "ports")?;
         let packet = self.packet.ok_or_else(|| {

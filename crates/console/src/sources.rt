@@ -15,6 +15,7 @@ struct File {
 }
 
 /// Policy files read as one text, in the order given.
+// No `Model`: clauses see its text alone, or its files; a view of both would be these two fields.
 #[derive(Debug, Drop)]
 pub struct Sources {
     files: Vec<File>,

@@ -8,6 +8,6 @@ use Rattle.console.proofs.arguments.Options.add.Goals as goal
 pub returns-in_ok-packet_of-in-Packet : goal.returns-in_ok-packet_of-in-Packet
 returns-in_ok-packet_of-in-Packet c =
     let p = c.in_ok-packet_of-in-Packet.field-0 in
-    let a = asked c.args.self.now in
+    let a = asked c.self.inside in
     let w = string_bytes c.args.word in
-    subst (λ d. TakesDue d a w (with_packet p a)) (sym c.in-Packet.is) (p, subst (λ l. Describes l (number p)) c.as_str-in-Packet.ensures.value c.in_ok-packet_of-in-Packet.ensures, refl)
+    rw (← c.self.view_is) (subst (λ d. TakesDue d a w (with_packet p a)) (sym c.in-Packet.is) (p, subst (λ l. Describes l (number p)) c.as_str-in-Packet.ensures.value c.in_ok-packet_of-in-Packet.ensures, refl))
