@@ -15,7 +15,8 @@ pub enum PortError {
     Full,
 }
 
-// No derived `==`, which would read the unused places of the list.
+// No `Model` and no derived `==`, as `Bounded` has none: a `Copy` type's view has to give its fields back, and `==` would
+// read the unused places.
 /// At most eight ports, 1 to 48, in rising order; a port that stands there twice gets two copies.
 #[derive(Clone, Copy)]
 pub struct Ports {

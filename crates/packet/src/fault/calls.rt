@@ -29,7 +29,7 @@ impl fmt::Display for TextPlace {
     }
 }
 
-// A `Display` for each enum of causes, and for calls: they differ in nothing but their words.
+// A `Display` for each: one `impl` over a trait of words would be no plainer, as each enum would still want its table.
 impl fmt::Display for ReaderCause {
     ghost output = { λ c. Some (reader_meaning c) };
 

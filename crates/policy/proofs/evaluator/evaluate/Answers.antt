@@ -1,30 +1,19 @@
 -- At the end the walk holds the sends of the root that count, and their tally is the policy's copies.
-use Rattle.std.proofs.Common.{◌+◌, [], length, ap, ◌∙◌, arith, rules}
-use Rattle.std.proofs.lemmas.List.{length-map}
-use Rattle.packet.proofs.Pushes.{items_fit}
-use Rattle.packet.specs.Items.{items_of}
+use Rattle.std.proofs.Common.{◌+◌, ap, ◌∙◌, arith, rules}
 use Rattle.policy.specs.Roots.{tree_of}
 use Rattle.policy.specs.Shapes.{shape}
 use Rattle.policy.specs.Trees.{stack_of}
 use Rattle.policy.specs.Walks.{sends_of}
 use Rattle.policy.proofs.Counting.{one_root, tally_gives}
-use Rattle.policy.proofs.Leading.{first, goes_on, all}
+use Rattle.policy.proofs.Leading.{goes_on, all}
 use Rattle.policy.proofs.Standing.{has}
 use Rattle.policy.proofs.evaluator.evaluate.Goals as goal
-
-pub loop-node-init : goal.loop-node-init
-loop-node-init c = record { trees = []; stands = c.new-walk.ensures; leads = first c.nodes-node-items.result.now; few = grind arith }
 
 pub step-requires-clause-parts : goal.step-requires-clause-parts
 step-requires-clause-parts c =
     let l = c.loop-node.invariant in
     let more = goes_on c.loop-node-test.true c.node-item.is l.leads c.args.policy.now c.nodes-node-items.ensures in
     has (shape c.node-item.result) l.stands more.1
-
-pub step-requires-clause-room : goal.step-requires-clause-room
-step-requires-clause-room c =
-    let policy = c.args.policy.now in
-    omega (arith, items_fit policy.nodes, ap length c.nodes-node-items.ensures, length-map c.nodes-node-items.result.now shape, length-map (items_of policy.nodes) shape)
 
 pub loop-node-preserved : goal.loop-node-preserved
 loop-node-preserved c =
