@@ -4,6 +4,7 @@ pub mod Closing
 pub mod Complete
 pub mod Cutting
 pub mod Digits
+pub mod Exits
 pub mod Goes
 pub mod Inverse
 pub mod Leaves

@@ -149,9 +149,7 @@ impl State {
             self.brackets.push(Due::Head(Kind::Policy)).unwrap();
             return Ok(());
         };
-        let Some(part) = part_of(d) else {
-            return Err(ReaderCause::Word);
-        };
+        let part = part_of(d).ok_or(ReaderCause::Word)?;
         self.brackets.push(part.after).unwrap();
         self.brackets
             .push(Due::Head(part.kind))
@@ -173,12 +171,8 @@ impl State {
     pub fn close(&mut self) -> Result<(), ReaderCause>
         ensures { closing self.old ≡ answered result self.new }
     {
-        let Some(d) = self.brackets.pop() else {
-            return Err(ReaderCause::Word);
-        };
-        let Some(n) = node_of(d) else {
-            return Err(ReaderCause::Word);
-        };
+        let d = self.brackets.pop().ok_or(ReaderCause::Word)?;
+        let n = node_of(d).ok_or(ReaderCause::Word)?;
         add_node(&mut self.nodes, n)?;
         if self.brackets.len() > 0 {
             return Ok(());
@@ -203,9 +197,7 @@ impl State {
     pub fn word(&mut self, w: &[u8]) -> Result<(), ReaderCause>
         ensures { wording self.old w.now ≡ answered result self.new }
     {
-        let Some(d) = self.brackets.pop() else {
-            return Err(ReaderCause::Word);
-        };
+        let d = self.brackets.pop().ok_or(ReaderCause::Word)?;
         let next = filled(d, w)?;
         self.brackets.push(next).unwrap();
         Ok(())
