@@ -1,18 +1,23 @@
-ghost use Rattle.std.specs.Prelude.{◌≡◌, ◌<◌, [], length, MatchResult};
+ghost use Rattle.std.specs.Prelude.{◌≡◌, ◌<◌, [], length};
 ghost use Rattle.packet.specs.Items.{items_of};
 ghost use Rattle.packet.specs.PortLists.{placed, Added};
 ghost use Rattle.packet.specs.Written.{written};
 
 use super::{PortError, Ports};
-use crate::bounded::{Bounded, Full};
+use crate::bounded::Bounded;
+
+/// How many ports a list has room for.
+const ROOM: usize = 8;
 
 /// The highest port of a switch.
 const HIGHEST: u8 = 48;
 
 // One turn for each port, the lower of two put down: `partition_point` and a rotation would want a list lent to be changed.
-/// The list with one port more, at its place; refused where eight stand there.
-fn with_port(list: &Bounded<u8, 8>, port: u8) -> Result<Bounded<u8, 8>, Full>
-    ensures { MatchResult result (λ grown. (length (items_of list.now) < 8) × (items_of grown ≡ placed port (items_of list.now))) (λ _. length (items_of list.now) ≡ 8) }
+/// The list with one port more, at its place.
+// Not a `Result` for its caller to turn into one of its own: the list would be copied twice more.
+fn with_port(list: &Bounded<u8, 8>, port: u8) -> Bounded<u8, 8>
+    requires { length (items_of list.now) < 8 }
+    ensures { items_of result ≡ placed port (items_of list.now) }
 {
     let mut grown = Bounded::new(0);
     let mut high = port;
@@ -20,8 +25,8 @@ fn with_port(list: &Bounded<u8, 8>, port: u8) -> Result<Bounded<u8, 8>, Full>
         grown.push((*here).min(high)).unwrap();
         high = (*here).max(high);
     }
-    grown.push(high)?;
-    Ok(grown)
+    grown.push(high).unwrap();
+    grown
 }
 
 impl Ports {
@@ -41,7 +46,11 @@ impl Ports {
         if port == 0 || port > HIGHEST {
             return Err(PortError::NoPort);
         }
-        self.list = with_port(&self.list, port).or(Err(PortError::Full))?;
+        if self.list.len() == ROOM {
+            return Err(PortError::Full);
+        }
+        let grown = with_port(&self.list, port);
+        self.list = grown;
         Ok(())
     }
 
