@@ -1,6 +1,4 @@
-ghost use Rattle.std.specs.Prelude.{◌≡◌, Some, cond};
-ghost use Rattle.packet.specs.Fields.{same};
-ghost use Rattle.header.specs.Frames.{exact, at, of_cells, frames};
+ghost use Rattle.header.specs.Frames.{exact, frames};
 ghost use Rattle.header.specs.Exact.{exact_laws};
 ghost use Rattle.header.specs.FrameLaws.{laid};
 
@@ -37,16 +35,6 @@ impl Cell for Option<u64> {
     }
 }
 
-impl FramePattern {
-    /// The pattern that states one field more.
-    fn with(mut self, field: Field, number: u64) -> FramePattern
-        ensures { result ≡ of_cells (λ g. cond (same field g) (Some number) (at self g)) }
-    {
-        self.cells[field.place()] = Some(number);
-        self
-    }
-}
-
 /// Tests of full length on every field; a pattern states whole numbers.
 impl CellPattern for FramePattern {
     type Cell = Option<u64>;
@@ -60,15 +48,20 @@ impl CellPattern for FramePattern {
     }
 
     fn pattern(test: &Test) -> FramePattern {
-        // What a field needs to exist, as cells: a list of needs would want a type of its own for these two.
-        let blank = FramePattern::blank();
-        let network = blank.with(Field::DlTyp, IP);
-        let needed = match test.field() {
-            Field::DlSrc | Field::DlDst | Field::DlTyp => blank,
-            Field::NwSrc | Field::NwDst | Field::NwProto => network,
-            Field::TpSrc | Field::TpDst => network.with(Field::NwProto, TCP),
+        let own = Some(test.value());
+        // What a field needs to exist: a list of needs would want a type of its own for these two.
+        let (ip, tcp) = (Some(IP), Some(TCP));
+        let cells = match test.field() {
+            Field::DlSrc => [own, None, None, None, None, None, None, None],
+            Field::DlDst => [None, own, None, None, None, None, None, None],
+            Field::DlTyp => [None, None, own, None, None, None, None, None],
+            Field::NwSrc => [None, None, ip, own, None, None, None, None],
+            Field::NwDst => [None, None, ip, None, own, None, None, None],
+            Field::NwProto => [None, None, ip, None, None, own, None, None],
+            Field::TpSrc => [None, None, ip, None, None, tcp, own, None],
+            Field::TpDst => [None, None, ip, None, None, tcp, None, own],
         };
-        needed.with(test.field(), test.value())
+        FramePattern { cells }
     }
 
     fn blank() -> FramePattern {

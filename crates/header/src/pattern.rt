@@ -1,5 +1,6 @@
 ghost use Rattle.std.specs.Prelude.{◌≡◌};
-ghost use Rattle.header.specs.Cells.{agrees_all};
+ghost use Rattle.packet.specs.Packets.{number};
+ghost use Rattle.header.specs.Cells.{agrees_all, covers_all, hits_all};
 ghost use Rattle.header.specs.Layouts.{Layout, kind_of};
 ghost use Rattle.header.specs.KindLaws.{Laid, kind_laws};
 
@@ -35,17 +36,34 @@ pub trait CellPattern: Copy {
     fn join(&self, other: &Self) -> Self
         ensures { result ≡ layout.join self.now other.now };
 
+    // The next three go over all fields; a kind that asks of a few may write them with fewer tests.
+    /// Whether each number of a packet is taken.
+    fn takes_each(&self, packet: &Packet) -> bool
+        ensures { result ≡ hits_all Self.Cell.cell (layout.at self.now) (number packet.now) }
+    {
+        Field::ALL.iter().all(|field| self.at(*field).takes(*field, packet.number(*field)))
+    }
+
+    /// Whether the cells of each field agree.
+    fn agrees_each(&self, other: &Self) -> bool
+        ensures { result ≡ agrees_all Self.Cell.cell (layout.at self.now) (layout.at other.now) }
+    {
+        Field::ALL
+            .iter()
+            .all(|field| self.at(*field).agrees(*field, other.at(*field)))
+    }
+
+    /// Whether each cell covers the other pattern's.
+    fn covers_each(&self, other: &Self) -> bool
+        ensures { result ≡ covers_all Self.Cell.cell (layout.at self.now) (layout.at other.now) }
+    {
+        Field::ALL
+            .iter()
+            .all(|field| self.at(*field).covers(*field, other.at(*field)))
+    }
+
     /// What each kind of such patterns proves.
     ghost laid: { Laid Self.Cell.cell layout };
-}
-
-/// Whether the cells of each field agree.
-fn agrees<P: CellPattern>(first: &P, second: &P) -> bool
-    ensures { result ≡ agrees_all P.Cell.cell (P.layout.at first.now) (P.layout.at second.now) }
-{
-    Field::ALL
-        .iter()
-        .all(|field| first.at(*field).agrees(*field, second.at(*field)))
 }
 
 /// Field by field: hit where each number is taken, met where all cells agree, covered where all cells are.
@@ -67,16 +85,14 @@ impl<P: CellPattern> HeaderKind for P {
     }
 
     fn hits(&self, packet: &Packet) -> bool {
-        Field::ALL.iter().all(|field| self.at(*field).takes(*field, packet.number(*field)))
+        self.takes_each(packet)
     }
 
     fn meet(&self, other: &P) -> Option<P> {
-        agrees(self, other).then(|| self.join(other))
+        self.agrees_each(other).then(|| self.join(other))
     }
 
     fn covers(&self, other: &P) -> bool {
-        Field::ALL
-            .iter()
-            .all(|field| self.at(*field).covers(*field, other.at(*field)))
+        self.covers_each(other)
     }
 }

@@ -7,7 +7,7 @@ ghost use Rattle.header.specs.RouteLaws.{laid};
 
 use crate::cell::Cell;
 use crate::pattern::CellPattern;
-use packet::{Field, IP, Test};
+use packet::{Field, IP, Packet, Test};
 
 /// The first bits of a network address: those of `value`, to the length.
 #[derive(Clone, Copy, PartialEq, Eq, Debug)]
@@ -148,5 +148,22 @@ impl CellPattern for RoutePattern {
             nwsrc: self.nwsrc.both(Field::NwSrc, other.nwsrc),
             nwdst: self.nwdst.both(Field::NwDst, other.nwdst),
         }
+    }
+
+    // Three tests, of what a pattern may ask; the chains over all fields would go through five more.
+    fn takes_each(&self, packet: &Packet) -> bool {
+        (!self.network | (packet.number(Field::DlTyp) == IP))
+            & self.nwsrc.takes(Field::NwSrc, packet.number(Field::NwSrc))
+            & self.nwdst.takes(Field::NwDst, packet.number(Field::NwDst))
+    }
+
+    fn agrees_each(&self, other: &RoutePattern) -> bool {
+        self.nwsrc.agrees(Field::NwSrc, other.nwsrc) & self.nwdst.agrees(Field::NwDst, other.nwdst)
+    }
+
+    fn covers_each(&self, other: &RoutePattern) -> bool {
+        (!self.network | other.network)
+            && self.nwsrc.covers(Field::NwSrc, other.nwsrc)
+            && self.nwdst.covers(Field::NwDst, other.nwdst)
     }
 }

@@ -1,6 +1,0 @@
-use Rattle.std.proofs.Common.{rules}
-use Rattle.packet.proofs.Chains.{every_of_all}
-use Rattle.header.proofs.pattern.agrees.Goals as goal
-
-pub returns : goal.returns
-returns g c = every_of_all (λ f. g.P.Cell.Cell.cell.agree f (g.P.CellPattern.layout.at c.args.first.now f) (g.P.CellPattern.layout.at c.args.second.now f)) _ _ _ c.all.ensures.ran (cc) (λ x b q k. search rules)
