@@ -3,13 +3,17 @@ use Rattle.std.proofs.Common.{◌≡◌, ℕ, ◌+◌, ◌*◌, ◌^◌, ◌<◌
 use Rattle.std.proofs.lemmas.Bool.{cond-true, lt-leb, le-leb, leb-true, leb-false}
 use Rattle.std.proofs.lemmas.Bool.Decides.{nat_tests}
 use Rattle.std.proofs.Math.Nat.{le-mul_of_pos_right}
-use Rattle.text.specs.Values.{and_some, at_most, digit_in, digits, nibble}
+use Rattle.text.specs.Values.{and_some, at_most, digit, digit_in, digits, nibble}
 use Rattle.text.proofs.Clash.{none_some}
 use Rattle.packet.proofs.Trying.{on_some, tries}
 
 -- the digits of base 16
 pub digit_sixteen : (b : ℕ) → digit_in 16 b ≡ nibble b
 digit_sixteen b = grind (arith, nat_tests)
+
+-- the digits of base 10
+pub digit_ten : (b : ℕ) → digit_in 10 b ≡ digit b
+digit_ten b = grind (arith, nat_tests)
 
 -- the same digits give the same number
 pub digits_same : (base : ℕ) (one two : ℕ → Option ℕ) → ((b : ℕ) → one b ≡ two b) → (n : ℕ) (w : List ℕ) → digits base one n w ≡ digits base two n w

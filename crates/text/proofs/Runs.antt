@@ -1,24 +1,14 @@
 -- The first token of a text.
-use Rattle.std.proofs.Common.{◌≡◌, ℕ, zero, suc, ◌+◌, ◌-◌, ◌<◌, ◌≤◌, Bool, true, false, ◌&&◌, cond, eqb, List, [], ◌∷◌, ◌++◌, length, get_or, take, drop, sym, refl, ap, ◌∙◌, ⊎_elim, subst, true≢false, zero-le, length-append, arith}
+use Rattle.std.proofs.Common.{◌≡◌, ℕ, suc, ◌<◌, ◌≤◌, true, false, cond, eqb, List, [], ◌∷◌, ◌++◌, length, get_or, take, drop, sym, refl, ap, ◌∙◌, ⊎_elim, true≢false, zero-le, arith}
 use mathlib.Core.Bool.{false≢true}
 use Rattle.std.proofs.lemmas.Bool.Decides.{nat_tests}
 use Rattle.std.proofs.lemmas.Bool.{cond-true, cond-false, cases_Bool}
-use Rattle.std.proofs.lemmas.List.{length-take-le, take_at, drop_at, get_or_append_left}
+use Rattle.std.proofs.lemmas.List.{length-take-le, take_at, drop_at}
 use Rattle.text.specs.declared.class.Class.{Class}
 use Rattle.text.specs.declared.class.Class.TheVariants.{Opening, Closing, Space, LineEnd, Letter, Digit, Point, Stroke, Other}
 use Rattle.text.specs.Bytes.{byte_class}
-use Rattle.std.specs.List.{prefix_len, IsChunkByPrefix}
-use Rattle.std.proofs.lemmas.List.Sums.{prefix_len_is}
-use Rattle.text.specs.Text.{Token, t_word, token, in_word, grow, tokens, size, lines}
-
--- how many bytes at the front stand in a word
-abbrev pub run : List ℕ → ℕ
-run [] = 0
-run (b ∷ bs) = cond (in_word (byte_class b)) (suc (run bs)) 0
-
--- the bytes of the first token of a text
-abbrev pub item_size : List ℕ → ℕ
-item_size bs = cond (in_word (byte_class (get_or bs 0 0))) (run bs) 1
+use Rattle.std.specs.List.{prefix_len}
+use Rattle.text.specs.Text.{Token, t_word, token, in_word, grow, tokens, run, item_size, size, lines}
 
 -- the run at the front is the longest prefix of bytes of words
 pub run_prefix : (w : List ℕ) → prefix_len (λ b. in_word (byte_class b)) w ≡ run w
@@ -104,7 +94,7 @@ pub first_token : (bs : List ℕ) → 0 < length bs → tokens bs ≡ token (byt
 first_token [] h = absurd (omega arith)
 first_token (b ∷ bs) h = ⊎_elim (first_word b bs) (first_other b bs) (cases_Bool (in_word (byte_class b)))
 
-run_within : (bs : List ℕ) → run bs ≤ length bs
+pub run_within : (bs : List ℕ) → run bs ≤ length bs
 run_within [] = zero-le
 run_within (b ∷ bs) = ⊎_elim
     (λ h. let e = cond-true (in_word (byte_class b)) (suc (run bs)) 0 h in omega (arith, run_within bs))
@@ -139,47 +129,11 @@ size_first bs h = ⊎_elim
 pub lines_first : (b : ℕ) (w : List ℕ) → lines (token (byte_class b) w) ≡ cond (eqb b 10) 1 0
 lines_first b w = grind (arith, nat_tests)
 
--- whether two bytes side by side stand in one word
-abbrev pub together : ℕ → ℕ → Bool
-together a b = in_word (byte_class a) && in_word (byte_class b)
-
-both : (a b : Bool) → (a && b) ≡ true → (a ≡ true) × (b ≡ true)
-both true b e = (refl, e)
-both false b e = absurd (false≢true e)
-
-other : (a b : Bool) → (a && b) ≡ false → a ≡ true → b ≡ false
-other true b e t = e
-other false b e t = absurd (false≢true t)
-
-module _ (bs : List ℕ) (n : ℕ) (some : 0 < n) (within : n ≤ length bs) (chunk : IsChunkByPrefix together bs n) where
-  -- in the longest front of bytes that stand together, each stands in a word if the first does
-  each : in_word (byte_class (get_or bs 0 0)) ≡ true → (k : ℕ) → k < n → in_word (byte_class (get_or bs k 0)) ≡ true
-  each t zero h = t
-  each t (suc k) h =
-      let p : k + 1 < n = omega arith in
-      let one : k + 1 ≡ suc k = omega arith in subst (λ i. in_word (byte_class (get_or bs i 0)) ≡ true) one (both _ _ (chunk.0 k 0 p)).1
-
-  word_size : in_word (byte_class (get_or bs 0 0)) ≡ true → n ≡ item_size bs
-  word_size t =
-      let stops : n < length bs → in_word (byte_class (get_or bs n 0)) ≡ false = λ l. other _ _ (chunk.1 l 0) (each t (n - 1) (omega arith)) in
-      sym (cond-true (in_word (byte_class (get_or bs 0 0))) (run bs) 1 t ∙ (sym (run_prefix bs) ∙ prefix_len_is (λ b. in_word (byte_class b)) bs n 0 within (each t) stops))
-
-  alone_size : in_word (byte_class (get_or bs 0 0)) ≡ false → n ≡ item_size bs
-  alone_size t =
-      let more : 1 < n → ⊥ = λ l. false≢true (sym t ∙ (both _ _ (chunk.0 0 0 l)).0) in
-      let one : n ≡ 1 = omega (arith, more) in one ∙ sym (cond-false (in_word (byte_class (get_or bs 0 0))) (run bs) 1 t)
-
-  pub chunk_size : n ≡ item_size bs
-  chunk_size = ⊎_elim word_size alone_size (cases_Bool (in_word (byte_class (get_or bs 0 0))))
-
--- such a front is the first token, and the tokens of the rest follow
-pub chunk_token : (bs w cs : List ℕ) → bs ≡ w ++ cs → 0 < length w → IsChunkByPrefix together bs (length w) →
-    (tokens bs ≡ token (byte_class (get_or w 0 0)) w ∷ tokens cs) × (size (token (byte_class (get_or w 0 0)) w) ≡ length w)
-chunk_token bs w cs e h c =
-    let l : length bs ≡ length w + length cs = ap length e ∙ length-append w cs in
-    let n : length w ≡ item_size bs = chunk_size bs (length w) h (omega arith) c in
+-- the first item of a text is its first token, and the tokens of the rest follow
+pub item_token : (bs w cs : List ℕ) → bs ≡ w ++ cs → 0 < length bs → length w ≡ item_size bs →
+    (tokens bs ≡ token (byte_class (get_or bs 0 0)) w ∷ tokens cs) × (size (token (byte_class (get_or bs 0 0)) w) ≡ length w)
+item_token bs w cs e h n =
     let front : take (item_size bs) bs ≡ w = ap (take (item_size bs)) e ∙ take_at w cs (item_size bs) n in
     let back : drop (item_size bs) bs ≡ cs = ap (drop (item_size bs)) e ∙ drop_at w cs (item_size bs) n in
-    let first : get_or bs 0 0 ≡ get_or w 0 0 = ap (λ x. get_or x 0 0) e ∙ get_or_append_left w cs 0 0 h in
-    let same : token (byte_class (get_or bs 0 0)) (take (item_size bs) bs) ≡ token (byte_class (get_or w 0 0)) w = λ i. token (byte_class (first i)) (front i) in
-    (first_token bs (omega arith) ∙ λ i. same i ∷ tokens (back i), ap size (sym same) ∙ (size_first bs (omega arith) ∙ sym n))
+    let same : token (byte_class (get_or bs 0 0)) (take (item_size bs) bs) ≡ token (byte_class (get_or bs 0 0)) w = ap (token (byte_class (get_or bs 0 0))) front in
+    (first_token bs h ∙ λ i. same i ∷ tokens (back i), ap size (sym same) ∙ (size_first bs h ∙ sym n))

@@ -8,6 +8,7 @@ pub mod Numbered
 pub mod Steps
 pub mod View
 pub mod Text
+pub mod Items
 pub mod Grammar
 pub mod Places
 pub mod Reads

@@ -1,5 +1,5 @@
 -- A text as tokens, and what reading it answers.
-use Rattle.std.specs.Prelude.{ℕ, ◌+◌, Bool, true, false, cond, List, [], ◌∷◌, reverse, length, Ok, Err, Result, ◌==◌, slice_index}
+use Rattle.std.specs.Prelude.{ℕ, suc, ◌+◌, Bool, true, false, cond, List, [], ◌∷◌, reverse, length, Ok, Err, Result, ◌==◌, slice_index}
 use Rattle.text.specs.declared.class.Class.{Class}
 use Rattle.text.specs.declared.class.Class.TheVariants.{Opening, Closing, Space, LineEnd, Letter, Digit, Point, Stroke, Other}
 use Rattle.packet.specs.declared.fault.ReaderCause.{ReaderCause}
@@ -55,6 +55,11 @@ abbrev pub tokens : List ℕ → List Token
 tokens [] = []
 tokens (b ∷ bs) = cond (in_word (byte_class b)) (grow b (tokens bs)) (token (byte_class b) [] ∷ tokens bs)
 
+-- how many bytes at the front stand in a word
+abbrev pub run : List ℕ → ℕ
+run [] = 0
+run (b ∷ bs) = cond (in_word (byte_class b)) (suc (run bs)) 0
+
 abbrev pub on_token : Reading → Token → Result Reading ReaderCause
 on_token s t_open = opening s
 on_token s t_close = closing s
@@ -98,6 +103,10 @@ lines (t_word w) = 0
 abbrev pub read_on : ℕ → ℕ → Reading → List Token → Result (List Shape) Fault
 read_on line byte s [] = at_place line byte (ending s)
 read_on line byte s (t ∷ ts) = and_then (at_place line byte (on_token s t)) (λ r. read_on (line + lines t) (byte + size t) r ts)
+
+-- the bytes of the first token of a text
+abbrev pub item_size : List ℕ → ℕ
+item_size bs = cond (in_word (byte_class (slice_index bs 0))) (run bs) 1
 
 -- the line ends in an item
 abbrev pub item_lines : List ℕ → ℕ

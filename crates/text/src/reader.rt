@@ -1,9 +1,10 @@
 //! Reading a policy text.
-ghost use Rattle.std.specs.Prelude.{◌≡◌, ◌+◌, ◌-◌, ◌^◌, ◌<◌, ◌&&◌, length, slice_index};
+ghost use Rattle.std.specs.Prelude.{◌≡◌, ◌+◌, ◌-◌, ◌^◌, ◌<◌, ◌≤◌, length, slice_index};
 ghost use Rattle.text.specs.Bytes.{byte_class};
+ghost use Rattle.text.specs.Items.{FirstItem};
 ghost use Rattle.text.specs.Reads.{Answer, Grammatical};
 ghost use Rattle.text.specs.Steps.{answered};
-ghost use Rattle.text.specs.Text.{in_word, token, on_token, ending, item_lines, read_text};
+ghost use Rattle.text.specs.Text.{token, on_token, ending, item_lines, item_size, read_text, run};
 ghost use Rattle.text.specs.View.{made_of};
 
 use crate::class::Class;
@@ -13,11 +14,10 @@ use policy::{Node, Policy};
 
 impl State {
     /// One item of the text, by the class of its first byte.
-    fn take(&mut self, item: &[u8]) -> Result<(), ReaderCause>
-        requires { 0 < length item.now }
-        ensures { on_token self.old (token (byte_class (slice_index item.now 0)) item.now) ≡ answered result self.new }
+    fn take(&mut self, class: Class, item: &[u8]) -> Result<(), ReaderCause>
+        ensures { on_token self.old (token class item.now) ≡ answered result self.new }
     {
-        match Class::from(item[0]) {
+        match class {
             Class::Opening => self.open(),
             Class::Closing => self.close(),
             Class::Space => Ok(()),
@@ -38,11 +38,35 @@ impl State {
     }
 }
 
-/// Whether two bytes side by side stand in one word.
-fn in_one_word(a: &u8, b: &u8) -> bool
-    ensures { result ≡ (in_word (byte_class a.now) && in_word (byte_class b.now)) }
+/// How many bytes at the front stand in a word.
+fn word_len(text: &[u8]) -> usize
+    ensures { result ≡ run text.now }
 {
-    Class::from(*a).stands_in_word() && Class::from(*b).stands_in_word()
+    text.iter()
+        .take_while(|byte| Class::from(**byte).stands_in_word())
+        .count()
+}
+
+/// How many bytes the first item has, by the class of its first byte.
+#[tactic(auto, using(crate::proofs::Runs::run_within))]
+fn item_len(class: Class, text: &[u8]) -> usize
+    requires { (0 < length text.now) × (class ≡ byte_class (slice_index text.now 0)) }
+    ensures is { result ≡ item_size text.now }
+    ensures within { result ≤ length text.now }
+{
+    if class.stands_in_word() {
+        word_len(text)
+    } else {
+        1
+    }
+}
+
+/// The first item of a text, with the class of its first byte; none where there is no byte.
+fn first_item(text: &[u8]) -> Option<(Class, &[u8])>
+    ensures { FirstItem text.now result }
+{
+    let class = Class::from(*text.first()?);
+    Some((class, &text[..item_len(class, text)]))
 }
 
 /// The place after an item that begins there.
@@ -68,9 +92,10 @@ fn nodes_of(text: &[u8]) -> Result<Option<Bounded<Node, 64>>, Fault>
 {
     let mut state = State::new();
     let mut place = TextPlace { line: 1, byte: 0 };
-    for item in text.chunk_by(in_one_word) {
+    // Not over `chunk_by`: it would class a byte twice, and one of no word once more when it is taken.
+    while let Some((class, item)) = first_item(&text[place.byte..]) {
         state
-            .take(item)
+            .take(class, item)
             .map_err(|cause| Fault::Reader { cause, place })?;
         place = past(place, item);
     }

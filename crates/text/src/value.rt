@@ -17,12 +17,14 @@ pub fn number_of(word: &[u8], limit: u16) -> Option<u16>
 }
 
 /// The number of a row of decimal digits, or none where it is past the limit.
+// Not by `digits_of`: a number past its limit ends this one, and 16 bits are read faster than 64.
 fn decimal_of(word: &[u8], limit: u16) -> Option<u16>
     ensures { result ≡ at_most limit (digits 10 digit 0 word.now) }
 {
-    u16::try_from(digits_of(word, 10)?)
-        .ok()
-        .filter(|number| *number <= limit)
+    word.iter().try_fold(0u16, |n, b| {
+        let next = u64::from(n) * 10 + digit_of(*b, 10)?;
+        u16::try_from(next).ok().filter(|next| *next <= limit)
+    })
 }
 
 /// A digit of a base: 0 to 9, then small letters from a on.
@@ -30,8 +32,13 @@ fn digit_of(b: u8, base: u32) -> Option<u64>
     requires { (2 ≤ base) × (base ≤ 36) }
     ensures { result ≡ digit_in base b }
 {
-    let digit = char::from(b).to_digit(base)?;
-    (!b.is_ascii_uppercase()).then_some(u64::from(digit))
+    // Not by `to_digit`: it takes capitals too, which would have to be told apart again.
+    let digit = match b {
+        b'0'..=b'9' => b - b'0',
+        b'a'..=b'z' => b - b'a' + 10,
+        _ => return None,
+    };
+    (u32::from(digit) < base).then_some(u64::from(digit))
 }
 
 /// The number that a row of digits writes, or none where it has more than 64 bits.
