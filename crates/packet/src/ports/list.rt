@@ -14,7 +14,7 @@ const HIGHEST: u8 = 48;
 
 // One turn for each port, the lower of two put down: `partition_point` and a rotation would want a list lent to be changed.
 /// The list with one port more, at its place.
-// Not a `Result` for its caller to turn into one of its own: the list would be copied twice more.
+// Not a `Result` for its caller to turn into one of its own: `add`, which knows whether there is room, took longer with one.
 fn with_port(list: &Bounded<u8, 8>, port: u8) -> Bounded<u8, 8>
     requires { length (items_of list.now) < 8 }
     ensures { items_of result ≡ placed port (items_of list.now) }
